@@ -1,0 +1,1 @@
+// Nothing but laws, which stand in proofs/: what the other crates show by tests that are computed.

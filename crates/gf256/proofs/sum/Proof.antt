@@ -1,0 +1,13 @@
+-- `gf256::sum` meets its contract: the sum is the exclusive or.
+-- Assumes nothing.
+use mathlib.Core.Path.{refl}
+use Rattle.gf256.specs.Field.{_⊕_}
+use Rattle.gf256.proofs.sum.Statement.{statement}
+use Rattle.gf256.proofs.sum.Tie as tie
+
+returns : tie.Need-returns
+unfolding _⊕_
+returns c = refl
+
+pub sum-spec : {M : Type 1} → statement M
+sum-spec = tie.close (tie.spec returns)

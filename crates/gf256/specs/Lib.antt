@@ -1,0 +1,4 @@
+pub mod Field
+pub mod Tables
+pub mod Lent
+pub mod PowerSum

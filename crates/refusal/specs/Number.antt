@@ -1,0 +1,44 @@
+-- The fixed list of refusal numbers, the number of each reason, and what a refusal holds.
+-- Assumes nothing.
+use mathlib.Core.List.{List, [], _∷_}
+use Prim.Native.Nat.{ℕ}
+use Rattle.refusal.specs.declared.Reason.{Reason}
+use Rattle.refusal.specs.declared.Reason.the-variants.{Length, Wide, Flag, Kind, Count, Header, Parity, Fill, BeyondRepair, Checksum, Station, Time, Picture, Sound, Item, Size, NothingToUndo, Room, BrokenDesk, FieldLength, FieldHead, Index}
+use Rattle.refusal.specs.declared.Refusal.{Refusal}
+
+-- the numbers that may be given, in order
+unfoldable pub fixedList : List ℕ
+fixedList = 1 ∷ 2 ∷ 3 ∷ 4 ∷ 5 ∷ 6 ∷ 7 ∷ 8 ∷ 9 ∷ 10 ∷ 11 ∷ 12 ∷ 13 ∷ 14 ∷ 20 ∷ 21 ∷ 22 ∷ 23 ∷ 24 ∷ 25 ∷ 26 ∷ 27 ∷ []
+
+-- the number of each reason
+unfoldable pub numberOf : Reason → ℕ
+numberOf Length = 1
+numberOf Wide = 2
+numberOf Flag = 3
+numberOf Kind = 4
+numberOf Count = 5
+numberOf Header = 6
+numberOf Parity = 7
+numberOf Fill = 8
+numberOf BeyondRepair = 9
+numberOf Checksum = 10
+numberOf Station = 11
+numberOf Time = 12
+numberOf Picture = 13
+numberOf Sound = 14
+numberOf Item = 20
+numberOf Size = 21
+numberOf NothingToUndo = 22
+numberOf Room = 23
+numberOf BrokenDesk = 24
+numberOf FieldLength = 25
+numberOf FieldHead = 26
+numberOf Index = 27
+
+-- a refusal for a reason, at a place
+abbrev pub refusalAt : Reason → ℕ → Refusal
+refusalAt why spot = record { reason = why; place = spot }
+
+-- a refusal for which the list names no place: its place is 0
+abbrev pub refusalPlain : Reason → Refusal
+refusalPlain why = refusalAt why 0

@@ -1,0 +1,79 @@
+// The refusals: why a call says no, and at which byte. Every crate that can refuse answers with these.
+ghost use mathlib.Core.Path.{_≡_};
+ghost use Rattle.refusal.specs.Number.{numberOf, refusalAt, refusalPlain};
+
+// One case for each number on the fixed list, in the list's order.
+pub enum Reason {
+    Length,
+    Wide,
+    Flag,
+    Kind,
+    Count,
+    Header,
+    Parity,
+    Fill,
+    BeyondRepair,
+    Checksum,
+    Station,
+    Time,
+    Picture,
+    Sound,
+    Item,
+    Size,
+    NothingToUndo,
+    Room,
+    BrokenDesk,
+    FieldLength,
+    FieldHead,
+    Index,
+}
+
+// A refusal: its reason, which has the number, and its place, 0 where the list gives none.
+pub struct Refusal {
+    pub reason: Reason,
+    pub place: u8,
+}
+
+// The number that the fixed list gives a reason.
+pub fn number(reason: Reason) -> u8
+    ensures { λ r. ⌜ r ≡ numberOf reason ⌝ }
+{
+    match reason {
+        Reason::Length => 1,
+        Reason::Wide => 2,
+        Reason::Flag => 3,
+        Reason::Kind => 4,
+        Reason::Count => 5,
+        Reason::Header => 6,
+        Reason::Parity => 7,
+        Reason::Fill => 8,
+        Reason::BeyondRepair => 9,
+        Reason::Checksum => 10,
+        Reason::Station => 11,
+        Reason::Time => 12,
+        Reason::Picture => 13,
+        Reason::Sound => 14,
+        Reason::Item => 20,
+        Reason::Size => 21,
+        Reason::NothingToUndo => 22,
+        Reason::Room => 23,
+        Reason::BrokenDesk => 24,
+        Reason::FieldLength => 25,
+        Reason::FieldHead => 26,
+        Reason::Index => 27,
+    }
+}
+
+// A refusal whose place is 0.
+pub fn plain(reason: Reason) -> Refusal
+    ensures { λ r. ⌜ r ≡ refusalPlain reason ⌝ }
+{
+    at(reason, 0)
+}
+
+// A refusal that says where.
+pub fn at(reason: Reason, place: u8) -> Refusal
+    ensures { λ r. ⌜ r ≡ refusalAt reason place ⌝ }
+{
+    Refusal { reason, place }
+}

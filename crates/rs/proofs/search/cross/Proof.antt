@@ -1,0 +1,11 @@
+-- `rs::search::cross` meets its contract.
+-- Assumes nothing.
+use borrow.Author.Needs.{needs}
+use Rattle.rs.proofs.search.cross.Statement.{statement}
+use Rattle.rs.proofs.search.cross.Tie as tie
+
+returns : tie.Need-returns
+returns c = cc
+
+pub cross-spec : {M : Type 1} → statement M
+cross-spec = tie.close (tie.spec (λ c κs. search needs) (λ c κs. search needs) (λ c κs. search needs) returns)

@@ -1,0 +1,11 @@
+-- `rs::search::sum3` meets its contract.
+-- Assumes nothing.
+use borrow.Author.Needs.{needs}
+use Rattle.rs.proofs.search.sum3.Statement.{statement}
+use Rattle.rs.proofs.search.sum3.Tie as tie
+
+returns : tie.Need-returns
+returns c = cc
+
+pub sum3-spec : {M : Type 1} → statement M
+sum3-spec = tie.close (tie.spec (λ c κs. search needs) (λ c κs. search needs) returns)

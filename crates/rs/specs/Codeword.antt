@@ -1,0 +1,42 @@
+-- RS(254,248): the divisor G, the parity of the data, and the codewords, which are 248 data bytes and their parity.
+-- Assumes nothing.
+use mathlib.Core.Path.{_≡_}
+use mathlib.Core.List.{List, [], _∷_, _++_}
+use Prim.Native.Nat.{ℕ, _<_}
+use lib.ListN.{length, take, drop}
+use Rattle.gf256.specs.Field.{_⊕_}
+use Rattle.rs.specs.Polynomial.{_⊞_, scale, zeros}
+
+-- the coefficients of G below its x^6
+unfoldable pub divisorBytes : List ℕ
+divisorBytes = 0x3F ∷ 0x01 ∷ 0xDA ∷ 0x20 ∷ 0xE3 ∷ 0x26 ∷ []
+
+-- G = x^6 + 0x3F x^5 + 0x01 x^4 + 0xDA x^3 + 0x20 x^2 + 0xE3 x + 0x26
+abbrev pub G : List ℕ
+G = 1 ∷ divisorBytes
+
+-- a step of the long division by x^n + g, of a remainder p with n coefficients: p moves up by one power and d comes in at x^n;
+-- what then stands at x^n goes, with its multiple of g
+unfoldable pub next : List ℕ → List ℕ → ℕ → List ℕ
+next g [] d = []
+next g (p ∷ ps) d = (ps ++ (0 ∷ [])) ⊞ scale (p ⊕ d) g
+
+-- the remainder after each of the coefficients ds
+unfoldable pub remainder : List ℕ → List ℕ → List ℕ → List ℕ
+remainder g p [] = p
+remainder g p (d ∷ ds) = remainder g (next g p d) ds
+
+-- P5 to P0: the remainder of x^6 D(x) by G(x), the first data byte being the highest coefficient of D
+unfoldable pub parityOf : List ℕ → List ℕ
+parityOf d = remainder divisorBytes (zeros 6) d
+
+-- each entry is a byte
+abbrev pub Bytes : List ℕ → Type 0
+Bytes [] = Unit {0}
+Bytes (b ∷ l) = (b < 256) × Bytes l
+
+-- 254 bytes of which the last six are the parity of the 248 before them
+pub record Codeword (w : List ℕ) : Type 0 where
+  pub long : length w ≡ 254
+  pub bytes : Bytes w
+  pub parity : drop 248 w ≡ parityOf (take 248 w)

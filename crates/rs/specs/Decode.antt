@@ -1,0 +1,65 @@
+-- What repair gives: the codeword that differs from what was delivered in at most three of the 254 bytes, or none.
+-- Assumes nothing.
+use mathlib.Core.Bool.{Bool, true, false, cond, _&&_}
+use mathlib.Core.List.{List, [], _∷_, _++_, map}
+use mathlib.Core.Option.{Option, none, some, Option·getD}
+use Prim.Native.Nat.{ℕ, zero, suc, _+_}
+use lib.Dec.{eqb, ltb}
+use lib.ListN.{length, take, drop}
+use Rattle.rs.specs.Codeword.{parityOf}
+
+-- in how many places two lists of one length differ
+unfoldable pub changes : List ℕ → List ℕ → ℕ
+changes [] m = 0
+changes (a ∷ l) [] = 0
+changes (a ∷ l) (b ∷ m) = cond (eqb a b) 0 1 + changes l m
+
+-- two lists are equal, entry by entry
+unfoldable pub same : List ℕ → List ℕ → Bool
+same [] [] = true
+same [] (b ∷ m) = false
+same (a ∷ l) [] = false
+same (a ∷ l) (b ∷ m) = eqb a b && same l m
+
+-- each entry is a byte, as a test
+unfoldable pub allBytes : List ℕ → Bool
+allBytes [] = true
+allBytes (b ∷ l) = ltb b 256 && allBytes l
+
+-- is the list a codeword?
+unfoldable pub isCodeword : List ℕ → Bool
+isCodeword w = eqb (length w) 254 && allBytes w && same (drop 248 w) (parityOf (take 248 w))
+
+-- each list that has a value below n in front of one of ls
+unfoldable pub fronted : ℕ → List (List ℕ) → List (List ℕ)
+fronted zero ls = []
+fronted (suc n) ls = map (λ l. n ∷ l) ls ++ fronted n ls
+
+-- every list that differs from l in at most k places: nothing is left to change; the end; the first byte kept; the first byte any
+-- byte, and one place fewer to change
+unfoldable pub near : ℕ → List ℕ → List (List ℕ)
+near zero l = l ∷ []
+near (suc k) [] = [] ∷ []
+near (suc k) (b ∷ l) = map (λ m. b ∷ m) (near (suc k) l) ++ fronted 256 (near k l)
+
+-- the first list that is a codeword
+unfoldable pub firstCodeword : List (List ℕ) → Option (List ℕ)
+firstCodeword [] = none
+firstCodeword (w ∷ ws) = cond (isCodeword w) (some w) (firstCodeword ws)
+
+-- is a list given?
+abbrev pub given : Option (List ℕ) → Bool
+given none = false
+given (some w) = true
+
+-- the codeword within three places of what was delivered
+unfoldable pub decode : List ℕ → Option (List ℕ)
+decode delivered = firstCodeword (near 3 delivered)
+
+-- is there one?
+unfoldable pub repairable : List ℕ → Bool
+repairable delivered = given (decode delivered)
+
+-- the codeword, or where there is none what was delivered
+unfoldable pub repaired : List ℕ → List ℕ
+repaired delivered = Option·getD (decode delivered) delivered

@@ -1,0 +1,5 @@
+pub mod Polynomial
+pub mod Codeword
+pub mod Decode
+pub mod Packed
+pub mod Search
