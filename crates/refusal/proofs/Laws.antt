@@ -1,2 +1,2 @@
--- Laws of the refusal numbers.
 pub mod Number
+pub mod Chain

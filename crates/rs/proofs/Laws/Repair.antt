@@ -4,11 +4,12 @@
 use mathlib.Core.Path.{_≡_, refl, sym, ap, ap₂, _∙_, subst}
 use mathlib.Core.Bool.{Bool, true, false}
 use mathlib.Core.List.{List, [], _∷_}
-use mathlib.Core.Option.{none, some, Option·getD}
+use mathlib.Core.Option.{Option, none, some, Option·getD}
 use Prim.Native.Nat.{ℕ, zero, suc, _-_, _<_, _≤_}
 use native.Mathlib.Nat.{suc-sub-suc, le-of-suc-le-suc, not-suc-le-zero, zero-lt-suc}
 use native.Mathlib.Omega.{arith}
 use lib.ListN.{length, getD, set, length-set, take, drop, length-drop, take-append-drop}
+use Rattle.basics.proofs.Laws.Test.{never}
 use Rattle.gf256.specs.Field.{_⊕_, _⊗_, pow}
 use Rattle.gf256.specs.PowerSum.{Term, powerSum}
 use Rattle.gf256.proofs.Laws.Sum.{⊕-assoc, ⊕-zero-l}
@@ -26,7 +27,7 @@ use Rattle.rs.proofs.Laws.Division.{parity-length, parity-bytes}
 use Rattle.rs.proofs.Laws.Packed.{unpack-pack, remainder-zero}
 use Rattle.rs.proofs.Laws.Distance.{terms, length-terms, terms-sum, changes-weight, changes-zero, changes-self, changes-set}
 use Rattle.rs.proofs.Laws.Codeword.{codeword-vanishes, remainder-value, vanishing-codeword}
-use Rattle.rs.proofs.Laws.Decode.{decode-complete, decode-none, decode-self, decode-short}
+use Rattle.rs.proofs.Laws.Decode.{decode-sound, decode-complete, decode-none, decode-self, decode-short}
 
 -- ---- the answer, by what decode gives
 
@@ -47,6 +48,15 @@ short-answer l n = none-answer l (decode-short l n)
 
 pub codeword-answer : (l : List ℕ) → Codeword l → Answer l true l
 codeword-answer l C = some-answer l l (decode-self l C)
+
+-- what repair gives where it says yes is a codeword
+pub repaired-codeword : (l : List ℕ) → repairable l ≡ true → Codeword (repaired l)
+unfolding repairable repaired
+repaired-codeword l = go (decode l) refl
+  where
+    go : (o : Option (List ℕ)) → decode l ≡ o → given o ≡ true → Codeword (Option·getD o l)
+    go none e y = never (sym y)
+    go (some c) e y = decode-sound l c e .word
 
 -- ---- patches
 

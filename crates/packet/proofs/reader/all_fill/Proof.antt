@@ -1,0 +1,54 @@
+-- `packet::reader::all_fill` meets its contract. The loop's invariant: the answer is that of the words not yet passed. The measure is
+-- what is left of the length.
+-- Assumes nothing.
+use mathlib.Core.Path.{_≡_, refl, sym, _∙_}
+use Prim.Native.Nat.{_≤_, _-_}
+use native.Mathlib.Omega.{arith}
+use borrow.Author.Needs.{needs}
+use borrow.Author.Tests.{eq-eqb, ne-eqb}
+use lib.ListN.{length, drop}
+use Rattle.packet.specs.Reading.{allFill}
+use Rattle.packet.proofs.Laws.Reader.{fill-step, fill-ends}
+use Rattle.packet.proofs.reader.all_fill.Statement.{statement}
+use Rattle.packet.proofs.reader.all_fill.Tie as tie
+
+abbrev Inv-loop : tie.InvT-loop
+Inv-loop words i₀ i = (i ≤ length words) × (allFill words ≡ allFill (drop i words))
+
+abbrev μ-loop : tie.MeasureT-loop
+μ-loop words i₀ i = length words - i
+
+loop-holds : tie.Need-loop-holds Inv-loop μ-loop
+loop-holds c = (omega arith, refl)
+
+returns : tie.Need-returns Inv-loop μ-loop
+returns c =
+    let l = c .before .before .before .loop in
+    let ws = c .before .before .before .before .args .words .now in
+    sym (l .inv .1 ∙ fill-step ws (l .i) (omega arith) ∙ rw (ne-eqb _ _ (c .if1 .taken)))
+
+loop-again : tie.Need-loop-again Inv-loop μ-loop
+loop-again c =
+    let l = c .before .before .before .loop in
+    let ws = c .before .before .before .before .args .words .now in
+    (omega arith, l .inv .1 ∙ fill-step ws (l .i) (omega arith) ∙ rw (eq-eqb _ _ (c .if1 .left)))
+
+returns-2 : tie.Need-returns-2 Inv-loop μ-loop
+returns-2 c =
+    let l = c .before .loop in
+    sym (l .inv .1 ∙ fill-ends (c .before .before .args .words .now) (l .i) (omega arith))
+
+pub all-fill-spec : {M : Type 1} → statement M
+all-fill-spec =
+    tie.close
+    (tie.spec
+    Inv-loop
+    μ-loop
+    loop-holds
+    (λ c. search needs)
+    (λ c. search needs)
+    returns
+    (λ c. search needs)
+    (λ c. search needs)
+    loop-again
+    returns-2)

@@ -1,0 +1,175 @@
+// Reading a packet part by part: the words up to the header, the protected words and their bytes, the checksum, and what is told of them.
+ghost use mathlib.Core.Path.{_≡_};
+ghost use mathlib.Core.Bool.{true, _&&_};
+ghost use Prim.Native.Nat.{_<_, _/_, _%_};
+ghost use lib.Dec.{eqb};
+ghost use lib.ListN.{length};
+ghost use Rattle.anc.specs.Word.{isSound, checksumOf};
+ghost use Rattle.record.specs.Checked.{checkedOf};
+ghost use Rattle.packet.specs.Reading.{word, allSound, allFill};
+ghost use Rattle.packet.specs.Answer.{packetBy, headRefusal, tailRefusal, guardRefusal, guardBytes, summedBy};
+use crate::Packet;
+use crate::protected;
+use record::Checked;
+use refusal::Reason;
+
+// Is each word sound?
+fn all_sound(words: &[u16]) -> bool
+    ensures { λ r. ⌜ r ≡ allSound (now (words .entry)) ⌝ }
+{
+    let mut i = 0;
+    while i < words.len() {
+        if !anc::is_sound(words[i]) {
+            return false;
+        }
+        i += 1;
+    }
+    true
+}
+
+// Is each word 0x200?
+fn all_fill(words: &[u16]) -> bool
+    ensures { λ r. ⌜ r ≡ allFill (now (words .entry)) ⌝ }
+{
+    let mut i = 0;
+    while i < words.len() {
+        if words[i] != 0x200 {
+            return false;
+        }
+        i += 1;
+    }
+    true
+}
+
+// Do the words begin with the flag?
+fn has_flag(words: &[u16]) -> bool
+    requires { ⌜ length (now words) ≡ 262 ⌝ }
+    ensures { λ r. ⌜ r ≡ (eqb (word (now (words .entry)) 0) 0x000 && eqb (word (now (words .entry)) 1) 0x3FF && eqb (word (now (words .entry)) 2) 0x3FF) ⌝ }
+{
+    (words[0] == 0x000) & (words[1] == 0x3FF) & (words[2] == 0x3FF)
+}
+
+// Are DID and SDID those of this packet?
+fn has_kind(words: &[u16]) -> bool
+    requires { ⌜ length (now words) ≡ 262 ⌝ }
+    ensures { λ r. ⌜ r ≡ (eqb (word (now (words .entry)) 3) 0x25F && eqb (word (now (words .entry)) 4) 0x1FE) ⌝ }
+{
+    (words[3] == 0x25F) & (words[4] == 0x1FE)
+}
+
+// Is the header sound, with zeros in b6 to b4?
+fn is_header(word: u16) -> bool
+    ensures { λ r. ⌜ r ≡ (isSound word && eqb (word / 16 % 8) 0) ⌝ }
+{
+    anc::is_sound(word) & (word / 16 % 8 == 0)
+}
+
+// What the words are refused for before the protected ones are looked at.
+fn head_refusal(words: &[u16]) -> Checked
+    ensures { λ r. ⌜ r ≡ checkedOf (headRefusal (now (words .entry))) ⌝ }
+{
+    if words.len() != 262 {
+        return Checked::Refused(refusal::plain(Reason::Length));
+    }
+    if !protected::narrow(words) {
+        return Checked::Refused(refusal::plain(Reason::Wide));
+    }
+    if !has_flag(words) {
+        return Checked::Refused(refusal::plain(Reason::Flag));
+    }
+    if !has_kind(words) {
+        return Checked::Refused(refusal::plain(Reason::Kind));
+    }
+    if words[5] != 0x2FF {
+        return Checked::Refused(refusal::plain(Reason::Count));
+    }
+    if !is_header(words[6]) {
+        return Checked::Refused(refusal::plain(Reason::Header));
+    }
+    Checked::Passed
+}
+
+// Fills `out` with the bytes of the 254 protected words as they are read, and says what the words are refused for.
+fn read_bytes(words: &[u16], correction: bool, out: &mut [u8]) -> Checked
+    requires { ⌜ (length (now words) ≡ 254) × (length (now out) ≡ 254) ⌝ }
+    ensures { λ r. ⌜ (r ≡ checkedOf (guardRefusal correction (now (words .entry)))) × (now (out .exit) ≡ guardBytes correction (now (words .entry))) ⌝ }
+{
+    protected::low_bytes(words, out);
+    if correction {
+        if !rs::repair(out) {
+            return Checked::Refused(refusal::plain(Reason::BeyondRepair));
+        }
+        return Checked::Passed;
+    }
+    if !all_sound(&words[0..248]) {
+        return Checked::Refused(refusal::plain(Reason::Parity));
+    }
+    if !all_fill(&words[248..254]) {
+        return Checked::Refused(refusal::plain(Reason::Fill));
+    }
+    Checked::Passed
+}
+
+// Is the correction bit of the header set?
+fn correction(header: u16) -> bool
+    ensures { λ r. ⌜ r ≡ eqb (header / 128 % 2) 1 ⌝ }
+{
+    header / 128 % 2 == 1
+}
+
+// The checksum of the words from DID to the last user word, with the sound words of the bytes in the protected places.
+fn sum_rewritten(words: &[u16], bytes: &[u8]) -> u16
+    requires { ⌜ (length (now words) ≡ 262) × (length (now bytes) ≡ 254) ⌝ }
+    ensures { λ r. ⌜ r ≡ checksumOf (summedBy true (now (words .entry)) (now (bytes .entry))) ⌝ }
+{
+    let mut summed = [0u16; 258];
+    summed[0] = words[3];
+    summed[1] = words[4];
+    summed[2] = words[5];
+    summed[3] = words[6];
+    protected::write_words(bytes, &mut summed[4..258]);
+    anc::checksum(&summed)
+}
+
+// The checksum of the words from DID to the last user word, as they are read.
+fn sum_read(words: &[u16], correction: bool, bytes: &[u8]) -> u16
+    requires { ⌜ (length (now words) ≡ 262) × (length (now bytes) ≡ 254) ⌝ }
+    ensures { λ r. ⌜ r ≡ checksumOf (summedBy correction (now (words .entry)) (now (bytes .entry))) ⌝ }
+{
+    if correction {
+        return sum_rewritten(words, bytes);
+    }
+    anc::checksum(&words[3..261])
+}
+
+// What the words are refused for once their bytes are read: the checksum, then the record.
+fn tail_refusal(words: &[u16], correction: bool, bytes: &[u8]) -> Checked
+    requires { ⌜ (length (now words) ≡ 262) × (length (now bytes) ≡ 254) ⌝ }
+    ensures { λ r. ⌜ r ≡ checkedOf (tailRefusal (now (words .entry)) correction (now (bytes .entry))) ⌝ }
+{
+    if sum_read(words, correction, bytes) != words[261] {
+        return Checked::Refused(refusal::plain(Reason::Checksum));
+    }
+    record::record_refusal(&bytes[0..248])
+}
+
+// What is told of accepted words whose bytes are read.
+pub(crate) fn packet(words: &[u16], bytes: &[u8]) -> Packet
+    requires { ⌜ (length (now words) ≡ 262) × (length (now bytes) ≡ 254) ⌝ }
+    ensures { λ r. ⌜ r ≡ packetBy (now (words .entry)) (now (bytes .entry)) ⌝ }
+{
+    let ci = (words[6] % 16) as u8;
+    if correction(words[6]) {
+        let fixed = protected::count_fixed(&words[7..261], bytes);
+        return Packet {
+            correction: true,
+            ci,
+            fixed,
+        };
+    }
+    Packet {
+        correction: false,
+        ci,
+        fixed: 0,
+    }
+}

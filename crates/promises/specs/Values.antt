@@ -1,0 +1,49 @@
+-- Values on both sides of a line, as one table: what the definitions give at the cases that are marked to be proved.
+-- Assumes nothing.
+use mathlib.Core.Path.{_≡_}
+use mathlib.Core.Bool.{Bool, true, false}
+use mathlib.Core.List.{List, [], _∷_, _++_}
+use Prim.Native.Nat.{ℕ}
+use lib.ListN.{getD, replicate}
+use Rattle.anc.specs.Word.{wordOf}
+use Rattle.rs.specs.Codeword.{parityOf}
+use Rattle.record.specs.Rules.{soundByte, pictureRule, timeByte}
+use Rattle.packet.specs.Protected.{soundWords}
+use Rattle.packet.specs.Layout.{packetWords}
+
+-- what a desk opens with: eight 0x20; 0xFF in items 2, 5, 8, 10 and 11; zero elsewhere
+unfoldable pub opening : List ℕ
+opening =
+    replicate 8 0x20 ++ replicate 9 0xFF ++ replicate 8 0 ++ (0xFF ∷ 0 ∷ 0 ∷ 0xFF ∷ 0 ∷ 0 ∷ 0 ∷ 0 ∷ []) ++ replicate 8 0xFF ++ replicate 207 0
+
+-- the checksum word of a packet
+abbrev pub sumWord : List ℕ → ℕ
+sumWord words = getD words 261 0
+
+-- a picture mode by its W0
+abbrev pub picture : ℕ → Bool
+picture w0 = pictureRule (w0 ∷ 0 ∷ 0 ∷ 0 ∷ [])
+
+-- a second by its byte
+abbrev pub second : ℕ → Bool
+second b = timeByte 0 59 b
+
+pub record Values : Type 0 where
+  pub byte-85 : wordOf 0x85 ≡ 0x185
+  pub byte-0F : wordOf 0x0F ≡ 0x20F
+  pub parity-of-one : soundWords (parityOf (replicate 247 0 ++ 0x01 ∷ [])) ≡ 0x23F ∷ 0x101 ∷ 0x1DA ∷ 0x120 ∷ 0x1E3 ∷ 0x126 ∷ []
+  pub zero-on : sumWord (packetWords true 0 (replicate 248 0)) ≡ 0x2DC
+  pub zero-off : sumWord (packetWords false 0 (replicate 248 0)) ≡ 0x15C
+  pub fresh-off : sumWord (packetWords false 0 opening) ≡ 0x149
+  pub sound-92 : soundByte 0x92 ≡ true
+  pub sound-89 : soundByte 0x89 ≡ false
+  pub sound-32 : soundByte 0x32 ≡ false
+  pub sound-1A : soundByte 0x1A ≡ true
+  pub sound-1B : soundByte 0x1B ≡ false
+  pub picture-85 : picture 0x85 ≡ true
+  pub picture-05 : picture 0x05 ≡ false
+  pub picture-80 : picture 0x80 ≡ false
+  pub picture-86 : picture 0x86 ≡ false
+  pub second-59 : second 0x59 ≡ true
+  pub second-5A : second 0x5A ≡ false
+  pub second-60 : second 0x60 ≡ false

@@ -1,0 +1,1 @@
+// Nothing but theorems, which stand in proofs/: what the crates below promise together.

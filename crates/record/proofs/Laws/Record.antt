@@ -1,0 +1,237 @@
+-- The record of 248 bytes: the runs that it is made of, what stands at each place of it, that it is a record itself and is refused for
+-- the same, and how it is written over the bytes.
+-- Assumes nothing.
+use mathlib.Core.Path.{_≡_, refl, sym, ap, _∙_}
+use mathlib.Core.Bool.{true, false}
+use mathlib.Core.List.{List, [], _∷_, _++_, append-nil, append-assoc}
+use Prim.Native.Nat.{ℕ, zero, suc, _+_, _<_}
+use native.Mathlib.Nat.{zero-add}
+use native.Mathlib.Omega.{arith}
+use lib.ListN.{length, getD, take, drop, replicate, length-append, length-drop, getD-replicate, take-append-drop}
+use lib.Seq.{length-take-le, take-at, drop-at, drop-drop, getD-take, getD-drop}
+use borrow.Author.Tests.{ne-eqb}
+use borrow.Rule.Slice.PartMut.{putMid}
+use Rattle.record.specs.Rules.{pictureClean}
+use Rattle.record.specs.Items.{items, part, cleaned, recordOf, recordRefusal}
+use Rattle.record.specs.Written.{fits, written}
+use Rattle.record.proofs.Laws.Parts.{join, skip, part-same, entry-same, over}
+use Rattle.record.proofs.Laws.Checks.{six-checks}
+use Rattle.record.proofs.Laws.Clean.{clean-length, clean-bytes, clean-again, clean-rule}
+
+-- ---- six runs: up to the picture modes, the two modes, from there to the reserved area, that, and the private area
+
+abbrev pub runs : (a p q b z d : List ℕ) → List ℕ
+runs a p q b z d = a ++ (p ++ (q ++ (b ++ (z ++ d))))
+
+-- what stands in each run
+record Runs (r a p q b z d : List ℕ) : Type 0 where
+  front : take 17 r ≡ a
+  current : take 4 (drop 17 r) ≡ p
+  next : take 4 (drop 21 r) ≡ q
+  middle : take 18 (drop 25 r) ≡ b
+  reserved : take 64 (drop 43 r) ≡ z
+  private : drop 107 r ≡ d
+
+runs-are : (a p q b z d : List ℕ) → length a ≡ 17 → length p ≡ 4 → length q ≡ 4 → length b ≡ 18 → length z ≡ 64
+    → Runs (runs a p q b z d) a p q b z d
+runs-are a p q b z d la lp lq lb lz =
+    let after-a : drop 17 (runs a p q b z d) ≡ p ++ (q ++ (b ++ (z ++ d))) = drop-at a _ 17 la in
+    let after-p : drop 21 (runs a p q b z d) ≡ q ++ (b ++ (z ++ d)) = skip a _ 17 4 la ∙ drop-at p _ 4 lp in
+    let after-q : drop 25 (runs a p q b z d) ≡ b ++ (z ++ d) = skip a _ 17 8 la ∙ skip p _ 4 4 lp ∙ drop-at q _ 4 lq in
+    let after-b : drop 43 (runs a p q b z d) ≡ z ++ d =
+    skip a _ 17 26 la ∙ skip p _ 4 22 lp ∙ skip q _ 4 18 lq ∙ drop-at b _ 18 lb in
+    let after-z : drop 107 (runs a p q b z d) ≡ d =
+    skip a _ 17 90 la ∙ skip p _ 4 86 lp ∙ skip q _ 4 82 lq ∙ skip b _ 18 64 lb ∙ drop-at z _ 64 lz in
+    record {
+      front = take-at a _ 17 la;
+      current = rw after-a (take-at p _ 4 lp);
+      next = rw after-p (take-at q _ 4 lq);
+      middle = rw after-q (take-at b _ 18 lb);
+      reserved = rw after-b (take-at z _ 64 lz);
+      private = after-z;
+    }
+
+-- ---- the runs of the record
+
+-- the picture mode behind s bytes, cleaned
+abbrev pub modeAt : ℕ → List ℕ → List ℕ
+modeAt s bytes = pictureClean (take 4 (drop s bytes))
+
+middle-join : (l : List ℕ)
+    → take 1 (drop 25 l) ++ (take 1 (drop 26 l) ++ (take 1 (drop 27 l) ++ (take 1 (drop 28 l) ++ (take 4 (drop 29 l) ++ (take 4 (drop 33 l) ++ (take 4 (drop 37 l) ++ (take 2 (drop 41 l) ++ []))))))) ≡ take 18 (drop 25 l)
+middle-join l =
+    join l 25 1 17 _ (join l 26 1 16 _ (join l 27 1 15 _ (join l 28 1 14 _ (join l 29 4 10 _ (join l 33 4 6 _ (join l 37 4 2 _ (append-nil _)))))))
+
+front-join : (l x : List ℕ) → take 8 l ++ (take 9 (drop 8 l) ++ x) ≡ take 17 l ++ x
+front-join l x = sym (append-assoc (take 8 l) (take 9 (drop 8 l)) x) ∙ ap (λ (r : List ℕ). r ++ x) (join l 0 8 9 _ refl)
+
+cleaned-runs : (bytes : List ℕ) → cleaned items bytes ≡ take 17 bytes ++ (modeAt 17 bytes ++ (modeAt 21 bytes ++ take 18 (drop 25 bytes)))
+unfolding cleaned items part
+cleaned-runs bytes =
+    front-join bytes _ ∙ ap (λ (r : List ℕ). take 17 bytes ++ (modeAt 17 bytes ++ (modeAt 21 bytes ++ r))) (middle-join bytes)
+
+pub record-runs : (bytes : List ℕ) → recordOf bytes ≡ runs (take 17 bytes) (modeAt 17 bytes) (modeAt 21 bytes) (take 18 (drop 25 bytes)) (replicate 64 0) (drop 107 bytes)
+unfolding recordOf
+record-runs bytes = rw (cleaned-runs bytes) (simp append-assoc)
+
+part-length : (l : List ℕ) (n s : ℕ) → n + s < suc (length l) → length (take n (drop s l)) ≡ n
+part-length l n s h = length-take-le n (drop s l) (simp length-drop (omega arith))
+
+module _ (bytes : List ℕ) (h : length bytes ≡ 248) where
+  l17 : length (take 17 bytes) ≡ 17
+  l17 = length-take-le 17 bytes (omega arith)
+
+  l18 : length (take 18 (drop 25 bytes)) ≡ 18
+  l18 = part-length bytes 18 25 (omega arith)
+
+  pub record-length : length (recordOf bytes) ≡ 248
+  record-length =
+      rw (record-runs bytes)
+      (simp (length-append, l17, clean-length, l18, length-drop) (omega arith))
+
+  record-in-runs : Runs (recordOf bytes) (take 17 bytes) (modeAt 17 bytes) (modeAt 21 bytes) (take 18 (drop 25 bytes)) (replicate 64 0) (drop 107 bytes)
+  record-in-runs =
+      rw (record-runs bytes)
+      (runs-are (take 17 bytes) (modeAt 17 bytes) (modeAt 21 bytes) (take 18 (drop 25 bytes)) (replicate 64 0) (drop 107 bytes)
+      l17 (clean-length (take 4 (drop 17 bytes))) (clean-length (take 4 (drop 21 bytes))) l18 refl)
+
+  -- up to the picture modes it is the bytes
+  pub record-front : take 17 (recordOf bytes) ≡ take 17 bytes
+  record-front = record-in-runs .front
+
+  -- the picture modes are cleaned
+  pub record-current : take 4 (drop 17 (recordOf bytes)) ≡ modeAt 17 bytes
+  record-current = record-in-runs .current
+
+  pub record-next : take 4 (drop 21 (recordOf bytes)) ≡ modeAt 21 bytes
+  record-next = record-in-runs .next
+
+  -- from there to the reserved area it is the bytes
+  pub record-middle : take 18 (drop 25 (recordOf bytes)) ≡ take 18 (drop 25 bytes)
+  record-middle = record-in-runs .middle
+
+  -- the reserved area is zero
+  pub record-reserved : take 64 (drop 43 (recordOf bytes)) ≡ replicate 64 0
+  record-reserved = record-in-runs .reserved
+
+  -- the private area is the bytes
+  pub record-private : drop 107 (recordOf bytes) ≡ drop 107 bytes
+  record-private = record-in-runs .private
+
+  -- ---- what stands at each place
+
+  pub record-at-front : (i : ℕ) → i < 17 → getD (recordOf bytes) i 0 ≡ getD bytes i 0
+  record-at-front i k =
+      let same : getD (recordOf bytes) (0 + i) 0 ≡ getD bytes (0 + i) 0 = entry-same (recordOf bytes) bytes 0 17 i record-front k in
+      rw zero-add at same
+
+  pub record-at-middle : (i : ℕ) → i < 18 → getD (recordOf bytes) (25 + i) 0 ≡ getD bytes (25 + i) 0
+  record-at-middle i k = entry-same (recordOf bytes) bytes 25 18 i record-middle k
+
+  pub record-at-reserved : (i : ℕ) → i < 64 → getD (recordOf bytes) (43 + i) 0 ≡ 0
+  record-at-reserved i k =
+      sym (getD-drop 43 (recordOf bytes) i 0) ∙ sym (getD-take 64 (drop 43 (recordOf bytes)) i 0 k) ∙ ap (λ (l : List ℕ). getD l i 0) record-reserved ∙ getD-replicate 64 i 0 0 k
+
+  pub record-at-private : (i : ℕ) → getD (recordOf bytes) (107 + i) 0 ≡ getD bytes (107 + i) 0
+  record-at-private i = sym (getD-drop 107 (recordOf bytes) i 0) ∙ ap (λ (l : List ℕ). getD l i 0) record-private ∙ getD-drop 107 bytes i 0
+
+  -- ---- the record of a record is itself, and is refused for the same
+
+  pub record-idem : recordOf (recordOf bytes) ≡ recordOf bytes
+  record-idem =
+      record-runs (recordOf bytes)
+      ∙ rw (record-front, record-current, record-next, record-middle, record-private, clean-again (take 4 (drop 17 bytes)), clean-again (take 4 (drop 21 bytes)))
+      (sym (record-runs bytes))
+
+  pub record-refusal : recordRefusal (recordOf bytes) ≡ recordRefusal bytes
+  record-refusal =
+      let station : take 8 (recordOf bytes) ≡ take 8 bytes = part-same (recordOf bytes) bytes 0 17 0 8 record-front (omega arith) in
+      let time : take 9 (drop 8 (recordOf bytes)) ≡ take 9 (drop 8 bytes) = part-same (recordOf bytes) bytes 0 17 8 9 record-front (omega arith) in
+      let current : getD (recordOf bytes) 26 0 ≡ getD bytes 26 0 = record-at-middle 1 (omega arith) in
+      let next : getD (recordOf bytes) 27 0 ≡ getD bytes 27 0 = record-at-middle 2 (omega arith) in
+      six-checks (recordOf bytes) record-length
+      ∙ rw (station, time, record-current, record-next, clean-rule (take 4 (drop 17 bytes)), clean-rule (take 4 (drop 21 bytes)), current, next)
+      (sym (six-checks bytes h))
+
+-- ---- its entries are bytes
+
+abbrev pub Bytes : List ℕ → Type 0
+Bytes l = (i : ℕ) → getD l i 0 < 256
+
+append-bytes : (x y : List ℕ) → Bytes x → Bytes y → Bytes (x ++ y)
+append-bytes [] y f g i = g i
+append-bytes (a ∷ x) y f g zero = f 0
+append-bytes (a ∷ x) y f g (suc i) = append-bytes x y (λ j. f (suc j)) g i
+
+take-bytes : (n : ℕ) (l : List ℕ) → Bytes l → Bytes (take n l)
+take-bytes zero l f i = omega arith
+take-bytes (suc n) [] f i = omega arith
+take-bytes (suc n) (a ∷ l) f zero = f 0
+take-bytes (suc n) (a ∷ l) f (suc i) = take-bytes n l (λ j. f (suc j)) i
+
+drop-bytes : (n : ℕ) (l : List ℕ) → Bytes l → Bytes (drop n l)
+drop-bytes n l f i = rw (getD-drop n l i 0) (f (n + i))
+
+zero-bytes : (n : ℕ) → Bytes (replicate n 0)
+zero-bytes zero i = omega arith
+zero-bytes (suc n) zero = omega arith
+zero-bytes (suc n) (suc i) = zero-bytes n i
+
+module _ (a p q b z d : List ℕ) (fa : Bytes a) (fp : Bytes p) (fq : Bytes q) (fb : Bytes b) (fz : Bytes z) (fd : Bytes d) where
+  runs-bytes : Bytes (runs a p q b z d)
+  runs-bytes i =
+      append-bytes a (p ++ (q ++ (b ++ (z ++ d)))) fa
+      (append-bytes p (q ++ (b ++ (z ++ d))) fp (append-bytes q (b ++ (z ++ d)) fq (append-bytes b (z ++ d) fb (append-bytes z d fz fd)))) i
+
+pub record-bytes : (bytes : List ℕ) → Bytes bytes → Bytes (recordOf bytes)
+record-bytes bytes f i =
+    let current : List ℕ = take 4 (drop 17 bytes) in
+    let next : List ℕ = take 4 (drop 21 bytes) in
+    rw (record-runs bytes)
+    (runs-bytes (take 17 bytes) (pictureClean current) (pictureClean next) (take 18 (drop 25 bytes)) (replicate 64 0) (drop 107 bytes)
+    (take-bytes 17 bytes f)
+    (clean-bytes current (take-bytes 4 (drop 17 bytes) (drop-bytes 17 bytes f) 0))
+    (clean-bytes next (take-bytes 4 (drop 21 bytes) (drop-bytes 21 bytes f) 0))
+    (take-bytes 18 (drop 25 bytes) (drop-bytes 25 bytes f))
+    (zero-bytes 64)
+    (drop-bytes 107 bytes f) i)
+
+-- ---- how it is written: the bytes, and over them the two picture modes and the zeros
+
+three-over : (a p r q b s z : List ℕ) → length a ≡ 17 → length p ≡ 4 → length q ≡ 4 → length b ≡ 18 → drop 4 r ≡ b ++ s
+    → putMid 43 64 (putMid 21 4 (a ++ (p ++ r)) q) z ≡ runs a p q b z (drop 64 s)
+three-over a p r q b s z la lp lq lb e =
+    let l21 : length (a ++ p) ≡ 21 = simp length-append (omega arith) in
+    let l43 : length (a ++ (p ++ (q ++ b))) ≡ 43 = simp length-append (omega arith) in
+    let one : putMid 21 4 (a ++ (p ++ r)) q ≡ (a ++ (p ++ (q ++ b))) ++ s =
+    rw (← append-assoc a p r) (over (a ++ p) r q 21 4 l21 ∙ rw e (simp append-assoc)) in
+    rw one (over (a ++ (p ++ (q ++ b))) s z 43 64 l43 ∙ simp append-assoc)
+
+over-bytes : (bytes p q z : List ℕ) → length bytes ≡ 248 → length p ≡ 4 → length q ≡ 4
+    → putMid 43 64 (putMid 21 4 (putMid 17 4 bytes p) q) z ≡ runs (take 17 bytes) p q (take 18 (drop 25 bytes)) z (drop 107 bytes)
+over-bytes bytes p q z h lp lq =
+    let rest : drop 4 (drop 4 (drop 17 bytes)) ≡ take 18 (drop 25 bytes) ++ drop 43 bytes =
+    rw (drop-drop 4 17 bytes, drop-drop 4 21 bytes, ← drop-drop 18 25 bytes) (sym (take-append-drop 18 (drop 25 bytes))) in
+    let last : drop 64 (drop 43 bytes) ≡ drop 107 bytes = drop-drop 64 43 bytes in
+    three-over (take 17 bytes) p (drop 4 (drop 17 bytes)) q (take 18 (drop 25 bytes)) (drop 43 bytes) z (l17 bytes h) lp lq (l18 bytes h) rest ∙ rw last
+
+module _ (bytes out : List ℕ) where
+  pub unwritten-bytes : (length bytes ≡ 248 → ⊥) → (fits bytes out ≡ false) × (written bytes out ≡ out)
+  unfolding fits written
+  unwritten-bytes n = simp (ne-eqb _ _ n) (refl, refl)
+
+  pub unwritten-room : length bytes ≡ 248 → (length out ≡ 248 → ⊥) → (fits bytes out ≡ false) × (written bytes out ≡ out)
+  unfolding fits written
+  unwritten-room h n = simp (h, ne-eqb _ _ n) (refl, refl)
+
+  pub record-fits : length bytes ≡ 248 → length out ≡ 248 → fits bytes out ≡ true
+  unfolding fits
+  record-fits h o = rw (h, o)
+
+  pub record-written : length bytes ≡ 248 → length out ≡ 248 → (x p q z : List ℕ) → x ≡ bytes
+      → p ≡ modeAt 17 bytes → q ≡ modeAt 21 bytes → z ≡ replicate 64 0
+      → putMid 43 64 (putMid 21 4 (putMid 17 4 x p) q) z ≡ written bytes out
+  unfolding written
+  record-written h o x p q z ex ep eq ez =
+      rw (ex, ep, eq, ez, record-fits h o)
+      (over-bytes bytes (modeAt 17 bytes) (modeAt 21 bytes) (replicate 64 0) h (clean-length (take 4 (drop 17 bytes))) (clean-length (take 4 (drop 21 bytes))) ∙ sym (record-runs bytes))

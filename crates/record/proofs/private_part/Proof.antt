@@ -1,0 +1,31 @@
+-- `record::private_part` meets its contract: of 248 bytes, those from the 108th on are the last 141.
+-- Assumes nothing.
+use native.Mathlib.Omega.{arith}
+use lib.ListN.{drop, length-drop}
+use lib.Seq.{take-all}
+use borrow.Author.Tests.{eq-eqb, ne-eqb}
+use Rattle.record.specs.Items.{privatePart}
+use borrow.Author.Needs.{needs}
+use Rattle.record.proofs.private_part.Statement.{statement}
+use Rattle.record.proofs.private_part.Tie as tie
+
+returns : tie.Need-returns
+unfolding privatePart
+returns c = simp (eq-eqb _ _ (c .before .if1 .taken)) (take-all 141 (drop 107 (c .before .before .args .bytes .now)) (simp length-drop (omega arith)))
+
+returns-2 : tie.Need-returns-2
+unfolding privatePart
+returns-2 c = simp (ne-eqb _ _ (c .before .if1 .left))
+
+pub private-part-spec : {M : Type 1} → statement M
+private-part-spec =
+    tie.close
+    (tie.spec
+    (λ c. search needs)
+    (λ c. search needs)
+    (λ c. search needs)
+    (λ c. search needs)
+    (λ c. search needs)
+    (λ c. search needs)
+    returns
+    returns-2)

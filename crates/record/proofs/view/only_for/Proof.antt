@@ -1,0 +1,14 @@
+-- `record::view::only_for` meets its contract: either outcome of the test gives its case.
+-- Assumes nothing.
+use borrow.Author.Tests.{eq-eqb, ne-eqb}
+use Rattle.record.proofs.view.only_for.Statement.{statement}
+use Rattle.record.proofs.view.only_for.Tie as tie
+
+returns : tie.Need-returns
+returns c = simp (eq-eqb _ _ (c .if1 .taken))
+
+returns-2 : tie.Need-returns-2
+returns-2 c = simp (ne-eqb _ _ (c .if1 .left))
+
+pub only-for-spec : {M : Type 1} → statement M
+only-for-spec = tie.close (tie.spec returns returns-2)

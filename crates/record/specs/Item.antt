@@ -1,0 +1,52 @@
+-- One item by its number: its row in the table, where it stands, and what the bytes given for it are refused for.
+-- Assumes nothing.
+use mathlib.Core.Bool.{Bool, true, cond}
+use mathlib.Core.List.{List, [], _∷_}
+use mathlib.Core.Option.{Option, none, some}
+use Prim.Native.Nat.{ℕ}
+use lib.Dec.{eqb}
+use lib.ListN.{length}
+use Rattle.refusal.specs.Chain.{require, passed}
+use Rattle.refusal.specs.Number.{refusalAt, refusalPlain}
+use Rattle.refusal.specs.declared.Reason.{Reason}
+use Rattle.refusal.specs.declared.Reason.the-variants.{Item, Size}
+use Rattle.refusal.specs.declared.Refusal.{Refusal}
+use Rattle.record.specs.declared.ItemPlace.{ItemPlace}
+use Rattle.record.specs.Items.{Row, items}
+
+-- the row that has the number
+unfoldable pub rowOf : ℕ → List Row → Option Row
+rowOf n [] = none
+rowOf n (i ∷ is) = cond (eqb n (i .number)) (some i) (rowOf n is)
+
+-- no such item, another number of bytes than it has, its rule
+unfoldable pub refusedIn : List ℕ → Option Row → Option Refusal
+refusedIn bytes none = some (refusalPlain Item)
+refusedIn bytes (some i) =
+    require (eqb (length bytes) (i .long)) (refusalPlain Size) (require (i .rule bytes) (refusalAt (i .reason) (i .first)) passed)
+
+unfoldable pub itemRefusal : ℕ → List ℕ → Option Refusal
+itemRefusal number bytes = refusedIn bytes (rowOf number items)
+
+-- its first byte, counted from 1, and its length; 0 and 0 where there is no such item
+unfoldable pub placeIn : Option Row → ItemPlace
+placeIn none = record { first = 0; length = 0 }
+placeIn (some i) = record { first = i .first; length = i .long }
+
+unfoldable pub placeOf : ℕ → ItemPlace
+placeOf number = placeIn (rowOf number items)
+
+-- its rule and the reason that it gives; where there is no such item, those of an item that may hold anything
+unfoldable pub ruleIn : List ℕ → Option Row → Bool
+ruleIn bytes none = true
+ruleIn bytes (some i) = i .rule bytes
+
+unfoldable pub ruleOf : ℕ → List ℕ → Bool
+ruleOf number bytes = ruleIn bytes (rowOf number items)
+
+unfoldable pub reasonIn : Option Row → Reason
+reasonIn none = Item
+reasonIn (some i) = i .reason
+
+unfoldable pub reasonOf : ℕ → Reason
+reasonOf number = reasonIn (rowOf number items)

@@ -1,0 +1,7 @@
+pub mod Rules
+pub mod Items
+pub mod Checked
+pub mod Written
+pub mod Item
+pub mod View
+pub mod Read
