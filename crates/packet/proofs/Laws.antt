@@ -8,3 +8,4 @@ pub mod Again
 pub mod Whole
 pub mod Writing
 pub mod Reader
+pub mod Answer

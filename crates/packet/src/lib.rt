@@ -1,10 +1,11 @@
-// The control packet: written from 248 bytes into 262 words, and the repair of its 254 protected words.
+// The control packet: written from 248 bytes into 262 words, read from them, and the repair of its 254 protected words.
 mod protected;
 mod reader;
 mod writing;
 
 ghost use mathlib.Core.Path.{_≡_};
 ghost use lib.ListN.{length};
+ghost use Rattle.packet.specs.Answer.{readingOf, readingIntoOf, readLeaves};
 ghost use Rattle.packet.specs.Repair.{repairedOf, repairLeaves};
 ghost use Rattle.packet.specs.Written.{writtenOf, writeLeaves};
 
@@ -79,4 +80,33 @@ pub fn write_packet(correction: bool, ci: u8, bytes: &[u8], out: &mut [u16]) -> 
     record::write_record(bytes, &mut rec);
     writing::fill(correction, ci, &rec, out);
     Written::Done
+}
+
+// Reads a packet: its 262 words are checked in a fixed order, and the first check that fails is the refusal.
+pub fn read_packet(words: &[u16]) -> Reading
+    ensures { λ r. ⌜ r ≡ readingOf (now (words .entry)) ⌝ }
+{
+    let mut bytes = [0u8; 254];
+    let checked = reader::check(words, &mut bytes);
+    match checked {
+        record::Checked::Passed => Reading::Accepted(reader::packet(words, &bytes)),
+        record::Checked::Refused(why) => Reading::Refused(why),
+    }
+}
+
+// Reads a packet, and leaves its record of 248 bytes in `out`. A refusal leaves `out` as it was.
+pub fn read_packet_into(words: &[u16], out: &mut [u8]) -> Reading
+    ensures { λ r. ⌜ (r ≡ readingIntoOf (now (words .entry)) (length (now (out .entry)))) × (now (out .exit) ≡ readLeaves (now (words .entry)) (now (out .entry))) ⌝ }
+{
+    let mut bytes = [0u8; 254];
+    let checked = reader::check(words, &mut bytes);
+    match checked {
+        record::Checked::Passed => {
+            if !record::write_record(&bytes[0..248], out) {
+                return Reading::Refused(refusal::plain(refusal::Reason::Room));
+            }
+            Reading::Accepted(reader::packet(words, &bytes))
+        }
+        record::Checked::Refused(why) => Reading::Refused(why),
+    }
 }

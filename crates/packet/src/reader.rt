@@ -6,8 +6,9 @@ ghost use lib.Dec.{eqb};
 ghost use lib.ListN.{length};
 ghost use Rattle.anc.specs.Word.{isSound, checksumOf};
 ghost use Rattle.record.specs.Checked.{checkedOf};
-ghost use Rattle.packet.specs.Reading.{word, allSound, allFill};
-ghost use Rattle.packet.specs.Answer.{packetBy, headRefusal, tailRefusal, guardRefusal, guardBytes, summedBy};
+ghost use Rattle.packet.specs.Repair.{leftBy};
+ghost use Rattle.packet.specs.Reading.{word, correctionOf, protectedOf, allSound, allFill, readRefusal};
+ghost use Rattle.packet.specs.Answer.{packetBy, headRefusal, bodyRefusal, tailRefusal, guardRefusal, guardBytes, summedBy};
 use crate::Packet;
 use crate::protected;
 use record::Checked;
@@ -151,6 +152,32 @@ fn tail_refusal(words: &[u16], correction: bool, bytes: &[u8]) -> Checked
         return Checked::Refused(refusal::plain(Reason::Checksum));
     }
     record::record_refusal(&bytes[0..248])
+}
+
+// Fills `bytes` with those of the protected words as they are read, and says what the words are refused for behind the header.
+fn check_body(words: &[u16], bytes: &mut [u8]) -> Checked
+    requires { ⌜ (length (now words) ≡ 262) × (length (now bytes) ≡ 254) ⌝ }
+    ensures { λ r. ⌜ (r ≡ checkedOf (bodyRefusal (now (words .entry)))) × (now (bytes .exit) ≡ guardBytes (correctionOf (now (words .entry))) (protectedOf (now (words .entry)))) ⌝ }
+{
+    let on = correction(words[6]);
+    let guarded = read_bytes(&words[7..261], on, bytes);
+    match guarded {
+        Checked::Passed => tail_refusal(words, on, bytes),
+        Checked::Refused(why) => Checked::Refused(why),
+    }
+}
+
+// What the words are refused for; `bytes` are those of the protected words as they are read, unless the words up to the header are
+// refused.
+pub(crate) fn check(words: &[u16], bytes: &mut [u8]) -> Checked
+    requires { ⌜ length (now bytes) ≡ 254 ⌝ }
+    ensures { λ r. ⌜ (r ≡ checkedOf (readRefusal (now (words .entry)))) × (now (bytes .exit) ≡ leftBy (headRefusal (now (words .entry))) (guardBytes (correctionOf (now (words .entry))) (protectedOf (now (words .entry)))) (now (bytes .entry))) ⌝ }
+{
+    let head = head_refusal(words);
+    match head {
+        Checked::Passed => check_body(words, bytes),
+        Checked::Refused(why) => Checked::Refused(why),
+    }
 }
 
 // What is told of accepted words whose bytes are read.

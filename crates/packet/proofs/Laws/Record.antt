@@ -23,7 +23,7 @@ pub record-bytes : (bytes : List ℕ) → Bytes bytes → Bytes (recordOf bytes)
 record-bytes bytes b = bytes-at (recordOf bytes) (each-byte bytes (bytes-getD bytes b))
 
 -- with 248 bytes the rules decide
-rules-decide : (bytes : List ℕ) → length bytes ≡ 248 → recordRefusal bytes ≡ broken items bytes
+pub rules-decide : (bytes : List ℕ) → length bytes ≡ 248 → recordRefusal bytes ≡ broken items bytes
 unfolding recordRefusal
 rules-decide bytes n = simp (eq-eqb (length bytes) 248 n)
 

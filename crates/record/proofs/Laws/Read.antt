@@ -18,7 +18,7 @@ use Rattle.record.specs.declared.view.RecordView.{RecordView}
 use Rattle.record.proofs.Laws.Checks.{refusal-in}
 
 -- the refusal that an answer tells
-told : (o : Option Refusal) (a b : Checked) → a ≡ checkedOf o → a ≡ b → o ≡ refusalIn b
+pub told : (o : Option Refusal) (a b : Checked) → a ≡ checkedOf o → a ≡ b → o ≡ refusalIn b
 told o a b e d = sym (refusal-in o) ∙ ap refusalIn (sym e ∙ d)
 
 module _ (bytes : List ℕ) (a : Checked) (e : a ≡ checkedOf (recordRefusal bytes)) where
