@@ -1,1 +1,1 @@
-// Nothing but laws, which stand in proofs/: what the other crates show by tests that are computed.
+// No code: a test of each entry of a list, which specs/ has, and laws in proofs/, of tests that are computed and of lists in runs.

@@ -1,12 +1,13 @@
 -- The 254 protected words: the bytes that they carry, the words they are rewritten as, and what repair alone is refused for.
 -- Assumes nothing.
-use mathlib.Core.Bool.{Bool, true, _&&_}
-use mathlib.Core.List.{List, [], _∷_, map}
+use mathlib.Core.Bool.{Bool}
+use mathlib.Core.List.{List, map}
 use mathlib.Core.Option.{Option}
 use Prim.Native.Nat.{ℕ, _%_}
 use lib.Dec.{eqb, leb}
 use lib.ListN.{length}
 use Rattle.anc.specs.Word.{wordOf}
+use Rattle.basics.specs.Each.{all}
 use Rattle.refusal.specs.Chain.{require, passed}
 use Rattle.refusal.specs.Number.{refusalPlain}
 use Rattle.refusal.specs.declared.Reason.the-variants.{Size, Wide, BeyondRepair, Room}
@@ -23,8 +24,7 @@ soundWords bytes = map wordOf bytes
 
 -- is no word over 1,023?
 unfoldable pub narrow : List ℕ → Bool
-narrow [] = true
-narrow (w ∷ ws) = leb w 1023 && narrow ws
+narrow words = all (λ w. leb w 1023) words
 
 -- the words of the codeword that the low bytes are within three of
 unfoldable pub rewritten : List ℕ → List ℕ

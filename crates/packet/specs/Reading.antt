@@ -1,12 +1,13 @@
 -- Reading a packet: its parts, what it is refused for in the order of the checks, and what is read.
 -- Assumes nothing.
-use mathlib.Core.Bool.{Bool, true, cond, _&&_}
-use mathlib.Core.List.{List, [], _∷_, _++_}
+use mathlib.Core.Bool.{Bool, cond, _&&_}
+use mathlib.Core.List.{List, _++_}
 use mathlib.Core.Option.{Option}
 use Prim.Native.Nat.{ℕ, _/_, _%_}
 use lib.Dec.{eqb}
 use lib.ListN.{length, getD, take, drop}
 use Rattle.anc.specs.Word.{isSound, checksumOf}
+use Rattle.basics.specs.Each.{all}
 use Rattle.refusal.specs.Chain.{require, next, passed}
 use Rattle.refusal.specs.Number.{refusalPlain}
 use Rattle.refusal.specs.declared.Reason.the-variants.{Length, Wide, Flag, Kind, Count, Header, Parity, Fill, BeyondRepair, Checksum, Room}
@@ -50,32 +51,35 @@ readFixed words = cond (correctionOf words) (fixedOf (protectedOf words)) 0
 
 -- ---- the checks
 
--- is each word sound?
-unfoldable pub allSound : List ℕ → Bool
-allSound [] = true
-allSound (w ∷ ws) = isSound w && allSound ws
-
--- is each word 0x200?
-unfoldable pub allFill : List ℕ → Bool
-allFill [] = true
-allFill (w ∷ ws) = eqb w 0x200 && allFill ws
-
--- the protected words, by the correction bit: 7 and 8, or 9
-unfoldable pub protectedRefusal : List ℕ → Option Refusal
-protectedRefusal words =
-    cond (correctionOf words) (require (repairable (lowBytes (protectedOf words))) (refusalPlain BeyondRepair) passed)
-    (require (allSound (take 248 (protectedOf words))) (refusalPlain Parity) (require (allFill (drop 248 (protectedOf words))) (refusalPlain Fill) passed))
-
--- 1 to 14
-unfoldable pub readRefusal : List ℕ → Option Refusal
-readRefusal words =
+-- 1 to 6: the words up to the header
+unfoldable pub headRefusal : List ℕ → Option Refusal
+headRefusal words =
     require (eqb (length words) 262) (refusalPlain Length)
     (require (narrow words) (refusalPlain Wide)
     (require (eqb (word words 0) 0x000 && eqb (word words 1) 0x3FF && eqb (word words 2) 0x3FF) (refusalPlain Flag)
     (require (eqb (word words 3) 0x25F && eqb (word words 4) 0x1FE) (refusalPlain Kind)
     (require (eqb (word words 5) 0x2FF) (refusalPlain Count)
-    (require (isSound (word words 6) && eqb (word words 6 / 16 % 8) 0) (refusalPlain Header)
-    (next (protectedRefusal words) (require (eqb (checksumOf (summedOf words)) (word words 261)) (refusalPlain Checksum) (broken items (readBytes words)))))))))
+    (require (isSound (word words 6) && eqb (word words 6 / 16 % 8) 0) (refusalPlain Header) passed)))))
+
+-- is the word 0x200?
+abbrev pub isFill : ℕ → Bool
+isFill w = eqb w 0x200
+
+-- the protected words, by the correction bit: 9, or 7 and 8
+unfoldable pub protectedRefusal : Bool → List ℕ → Option Refusal
+protectedRefusal correction guarded =
+    cond correction (require (repairable (lowBytes guarded)) (refusalPlain BeyondRepair) passed)
+    (require (all isSound (take 248 guarded)) (refusalPlain Parity) (require (all isFill (drop 248 guarded)) (refusalPlain Fill) passed))
+
+-- 7 to 14: the protected words, the checksum and the record
+unfoldable pub bodyRefusal : List ℕ → Option Refusal
+bodyRefusal words =
+    next (protectedRefusal (correctionOf words) (protectedOf words))
+    (require (eqb (checksumOf (summedOf words)) (word words 261)) (refusalPlain Checksum) (broken items (readBytes words)))
+
+-- 1 to 14
+unfoldable pub readRefusal : List ℕ → Option Refusal
+readRefusal words = next (headRefusal words) (bodyRefusal words)
 
 -- 1 to 14, then 23: where room for the record is lent
 unfoldable pub readIntoRefusal : List ℕ → ℕ → Option Refusal

@@ -4,6 +4,7 @@ use mathlib.Core.List.{List}
 use mathlib.Core.Option.{Option, none, some}
 use Prim.Native.Nat.{ℕ}
 use lib.ListN.{length}
+use Rattle.refusal.specs.Chain.{leftBy}
 use Rattle.refusal.specs.declared.Refusal.{Refusal}
 use Rattle.packet.specs.declared.Repaired.{Repaired}
 use Rattle.packet.specs.declared.Repaired.the-variants.{Fixed, Refused}
@@ -33,11 +34,6 @@ unfoldable pub repairedOf : List ℕ → ℕ → Repaired
 repairedOf words room = repairedBy (repairRefusal words room) (fixedOf words)
 
 -- ---- what is left in the lent buffer
-
--- a refusal leaves what was there
-abbrev pub leftBy : Option Refusal → List ℕ → List ℕ → List ℕ
-leftBy none new old = new
-leftBy (some why) new old = old
 
 -- the rewritten words, or what was there
 unfoldable pub repairLeaves : List ℕ → List ℕ → List ℕ

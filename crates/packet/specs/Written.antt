@@ -8,13 +8,13 @@ use lib.ListN.{length}
 use Rattle.refusal.specs.declared.Refusal.{Refusal}
 use Rattle.packet.specs.declared.Written.{Written}
 use Rattle.packet.specs.declared.Written.the-variants.{Done, Refused}
-use Rattle.packet.specs.Repair.{leftBy}
+use Rattle.refusal.specs.Chain.{leftBy}
 use Rattle.packet.specs.Writing.{writeRefusal, writtenWords}
 
 -- the refusal, with its number and place, that an answer gives
-abbrev pub refusalOf : Written → Option Refusal
-refusalOf Done = none
-refusalOf (Refused why) = some why
+abbrev pub refusalIn : Written → Option Refusal
+refusalIn Done = none
+refusalIn (Refused why) = some why
 
 -- the answer: no refusal is done
 abbrev pub writtenBy : Option Refusal → Written

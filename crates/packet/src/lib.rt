@@ -41,7 +41,7 @@ pub fn repair(words: &[u16], out: &mut [u16]) -> Repaired
     }
     let mut bytes = [0u8; 254];
     protected::low_bytes(words, &mut bytes);
-    if !rs::repair(&mut bytes) {
+    if !search::repair(&mut bytes) {
         return Repaired::Refused(refusal::plain(refusal::Reason::BeyondRepair));
     }
     if out.len() != 254 {

@@ -5,10 +5,11 @@ ghost use Prim.Native.Nat.{_<_, _/_, _%_};
 ghost use lib.Dec.{eqb};
 ghost use lib.ListN.{length};
 ghost use Rattle.anc.specs.Word.{isSound, checksumOf};
+ghost use Rattle.basics.specs.Each.{all};
 ghost use Rattle.record.specs.Checked.{checkedOf};
-ghost use Rattle.packet.specs.Repair.{leftBy};
-ghost use Rattle.packet.specs.Reading.{word, correctionOf, protectedOf, allSound, allFill, readRefusal};
-ghost use Rattle.packet.specs.Answer.{packetBy, headRefusal, bodyRefusal, tailRefusal, guardRefusal, guardBytes, summedBy};
+ghost use Rattle.refusal.specs.Chain.{leftBy};
+ghost use Rattle.packet.specs.Reading.{word, correctionOf, protectedOf, isFill, headRefusal, protectedRefusal, bodyRefusal, readRefusal};
+ghost use Rattle.packet.specs.Answer.{packetBy, tailRefusal, guardBytes, summedBy};
 use crate::Packet;
 use crate::protected;
 use record::Checked;
@@ -16,7 +17,7 @@ use refusal::Reason;
 
 // Is each word sound?
 fn all_sound(words: &[u16]) -> bool
-    ensures { λ r. ⌜ r ≡ allSound (now (words .entry)) ⌝ }
+    ensures { λ r. ⌜ r ≡ all isSound (now (words .entry)) ⌝ }
 {
     let mut i = 0;
     while i < words.len() {
@@ -30,7 +31,7 @@ fn all_sound(words: &[u16]) -> bool
 
 // Is each word 0x200?
 fn all_fill(words: &[u16]) -> bool
-    ensures { λ r. ⌜ r ≡ allFill (now (words .entry)) ⌝ }
+    ensures { λ r. ⌜ r ≡ all isFill (now (words .entry)) ⌝ }
 {
     let mut i = 0;
     while i < words.len() {
@@ -93,11 +94,11 @@ fn head_refusal(words: &[u16]) -> Checked
 // Fills `out` with the bytes of the 254 protected words as they are read, and says what the words are refused for.
 fn read_bytes(words: &[u16], correction: bool, out: &mut [u8]) -> Checked
     requires { ⌜ (length (now words) ≡ 254) × (length (now out) ≡ 254) ⌝ }
-    ensures { λ r. ⌜ (r ≡ checkedOf (guardRefusal correction (now (words .entry)))) × (now (out .exit) ≡ guardBytes correction (now (words .entry))) ⌝ }
+    ensures { λ r. ⌜ (r ≡ checkedOf (protectedRefusal correction (now (words .entry)))) × (now (out .exit) ≡ guardBytes correction (now (words .entry))) ⌝ }
 {
     protected::low_bytes(words, out);
     if correction {
-        if !rs::repair(out) {
+        if !search::repair(out) {
             return Checked::Refused(refusal::plain(Reason::BeyondRepair));
         }
         return Checked::Passed;

@@ -24,11 +24,11 @@ pub record Row : Type 0 where
   pub clean : List ℕ → List ℕ
 
 -- an item that has a rule
-abbrev ruled : ℕ → ℕ → ℕ → Reason → (List ℕ → Bool) → (List ℕ → List ℕ) → Row
+abbrev pub ruled : ℕ → ℕ → ℕ → Reason → (List ℕ → Bool) → (List ℕ → List ℕ) → Row
 ruled n f l why r c = record { number = n; first = f; long = l; rule = r; reason = why; clean = c }
 
 -- an item that may hold anything, all of which is read (so that its reason is never given)
-abbrev free : ℕ → ℕ → ℕ → Row
+abbrev pub free : ℕ → ℕ → ℕ → Row
 free n f l = ruled n f l Item (λ bytes. true) (λ bytes. bytes)
 
 -- the items, in the order of their bytes

@@ -3,5 +3,4 @@ pub mod Items
 pub mod Checked
 pub mod Written
 pub mod Item
-pub mod View
-pub mod Read
+pub mod Stored

@@ -5,15 +5,11 @@ use mathlib.Core.List.{List, [], _∷_}
 use Prim.Native.Nat.{ℕ, _+_, _*_, _/_, _%_, _^_}
 use lib.Dec.{eqb, leb}
 use lib.ListN.{getD}
+use Rattle.basics.specs.Each.{all}
 
 -- is n one of low to high?
 abbrev pub within : ℕ → ℕ → ℕ → Bool
 within low high n = leb low n && leb n high
-
--- does the test pass at each entry?
-unfoldable pub all : (ℕ → Bool) → List ℕ → Bool
-all f [] = true
-all f (b ∷ l) = f b && all f l
 
 -- is n on the list?
 unfoldable pub oneOf : List ℕ → ℕ → Bool

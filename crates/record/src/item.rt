@@ -1,5 +1,7 @@
 // The rule of one item by its number, and the reason that is given where it is broken.
 ghost use mathlib.Core.Path.{_≡_};
+ghost use mathlib.Core.Bool.{_||_};
+ghost use lib.Dec.{eqb};
 ghost use lib.ListN.{length};
 ghost use Rattle.record.specs.Item.{placeOf, ruleOf, reasonOf};
 use crate::rules;
@@ -54,4 +56,11 @@ pub(crate) fn reason(number: u8) -> Reason
         return Reason::Sound;
     }
     Reason::Item
+}
+
+// Is it a picture mode, of which not every place is read?
+pub(crate) fn is_picture(number: u8) -> bool
+    ensures { λ r. ⌜ r ≡ (eqb number 3 || eqb number 4) ⌝ }
+{
+    (number == 3) | (number == 4)
 }

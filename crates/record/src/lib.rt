@@ -2,14 +2,13 @@
 // in which every place that isn't read is zero, and the private area as a part of the caller's own bytes.
 mod item;
 mod rules;
-pub mod view;
 
 ghost use mathlib.Core.Path.{_≡_};
 ghost use lib.ListN.{length};
 ghost use Rattle.record.specs.Items.{recordRefusal, privatePart};
 ghost use Rattle.record.specs.Item.{itemRefusal, placeOf};
 ghost use Rattle.record.specs.Checked.{checkedOf};
-ghost use Rattle.record.specs.Read.{recordReadOf};
+ghost use Rattle.record.specs.Stored.{itemLent, itemFits, putLeaves, storeRefusal, storeLeaves};
 ghost use Rattle.record.specs.Written.{fits, written};
 use refusal::Reason;
 use refusal::Refusal;
@@ -46,32 +45,6 @@ pub fn record_refusal(bytes: &[u8]) -> Checked
         return Checked::Refused(refusal::at(Reason::Sound, 28));
     }
     Checked::Passed
-}
-
-// A record read from bytes: the check, and beside it the view; where the check refuses, the view is that of zero bytes.
-pub struct RecordRead {
-    pub checked: Checked,
-    pub view: view::RecordView,
-}
-
-// Reads a record from bytes: 21, then 11 to 14 with their places.
-pub fn read_record(bytes: &[u8]) -> RecordRead
-    ensures { λ r. ⌜ r ≡ recordReadOf (now (bytes .entry)) ⌝ }
-{
-    let checked = record_refusal(bytes);
-    match checked {
-        Checked::Passed => RecordRead {
-            checked,
-            view: view::view_of(bytes),
-        },
-        Checked::Refused(_) => {
-            let zeros = [0u8; 248];
-            RecordRead {
-                checked,
-                view: view::view_of(&zeros),
-            }
-        }
-    }
 }
 
 // Writes the record of 248 bytes over a buffer of 248: true; or leaves it as it was: false.
@@ -161,5 +134,64 @@ pub fn item_refusal(number: u8, bytes: &[u8]) -> Checked
     if !item::rule(number, bytes) {
         return Checked::Refused(refusal::at(item::reason(number), place.first as u8));
     }
+    Checked::Passed
+}
+
+// The item's part of 248 bytes; an empty part where there is no such item, or another number of bytes.
+pub fn item_part(number: u8, bytes: &[u8]) -> &[u8]
+    ensures { λ r. ⌜ now r ≡ itemLent number (now (bytes .entry)) ⌝ }
+{
+    let place = item_place(number);
+    let first = place.first;
+    let length = place.length;
+    if bytes.len() != 248 {
+        return &bytes[0..0];
+    }
+    if first == 0 {
+        return &bytes[0..0];
+    }
+    &bytes[first - 1..first - 1 + length]
+}
+
+// Puts the bytes, as they are, into the item's place in a record of 248 bytes: true. Where there is no such item, or it has another
+// number of bytes, or the record has, the record stays as it was: false.
+pub fn put_item(number: u8, bytes: &[u8], out: &mut [u8]) -> bool
+    ensures { λ r. ⌜ (r ≡ itemFits number (now (bytes .entry)) (now (out .entry))) × (now (out .exit) ≡ putLeaves number (now (bytes .entry)) (now (out .entry))) ⌝ }
+{
+    let place = item_place(number);
+    let first = place.first;
+    let length = place.length;
+    if first == 0 {
+        return false;
+    }
+    if bytes.len() != length {
+        return false;
+    }
+    if out.len() != 248 {
+        return false;
+    }
+    copy(&mut out[first - 1..first - 1 + length], bytes);
+    true
+}
+
+// Checks the bytes given for an item, and stores them in its place in a record of 248 bytes with every place that isn't read set to
+// zero. A refusal leaves the record as it was.
+pub fn store_item(number: u8, bytes: &[u8], out: &mut [u8]) -> Checked
+    ensures { λ r. ⌜ (r ≡ checkedOf (storeRefusal number (now (bytes .entry)) (length (now (out .entry))))) × (now (out .exit) ≡ storeLeaves number (now (bytes .entry)) (now (out .entry))) ⌝ }
+{
+    let checked = item_refusal(number, bytes);
+    match checked {
+        Checked::Refused(why) => return Checked::Refused(why),
+        Checked::Passed => {}
+    }
+    if out.len() != 248 {
+        return Checked::Refused(refusal::plain(Reason::Room));
+    }
+    if item::is_picture(number) {
+        let mode = rules::picture_clean(bytes);
+        put_item(number, &mode, out);
+        return Checked::Passed;
+    }
+    put_item(number, bytes, out);
     Checked::Passed
 }

@@ -17,3 +17,8 @@ passed = none
 abbrev pub next : Option Refusal → Option Refusal → Option Refusal
 next none rest = rest
 next (some no′) rest = some no′
+
+-- what passed checks leave, or what stands where they refuse
+abbrev pub leftBy : {X : Type 0} → Option Refusal → X → X → X
+leftBy none new old = new
+leftBy (some no′) new old = old

@@ -4,11 +4,3 @@ pub mod Distance
 pub mod Codeword
 pub mod Decode
 pub mod Packed
-pub mod Moment
-pub mod Errors
-pub mod Root
-pub mod One
-pub mod Two
-pub mod Three
-pub mod Held
-pub mod Repair

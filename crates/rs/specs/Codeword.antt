@@ -1,8 +1,11 @@
--- RS(254,248): the divisor G, the parity of the data, and the codewords, which are 248 data bytes and their parity.
+-- RS(254,248): the divisor G, the parity of the data, what the division leaves of a block, and the codewords, which are 248 data bytes and
+-- their parity.
 -- Assumes nothing.
 use mathlib.Core.Path.{_≡_}
+use mathlib.Core.Bool.{cond}
 use mathlib.Core.List.{List, [], _∷_, _++_}
 use Prim.Native.Nat.{ℕ, _<_}
+use lib.Dec.{eqb}
 use lib.ListN.{length, take, drop}
 use Rattle.gf256.specs.Field.{_⊕_}
 use Rattle.rs.specs.Polynomial.{_⊞_, scale, zeros}
@@ -29,6 +32,10 @@ remainder g p (d ∷ ds) = remainder g (next g p d) ds
 -- P5 to P0: the remainder of x^6 D(x) by G(x), the first data byte being the highest coefficient of D
 unfoldable pub parityOf : List ℕ → List ℕ
 parityOf d = remainder divisorBytes (zeros 6) d
+
+-- what the division leaves of a block of 254 bytes: the parity of the first 248, with the last six added; of another number, six zeros
+unfoldable pub leftOf : List ℕ → List ℕ
+leftOf block = cond (eqb (length block) 254) (parityOf (take 248 block) ⊞ drop 248 block) (zeros 6)
 
 -- each entry is a byte
 abbrev pub Bytes : List ℕ → Type 0

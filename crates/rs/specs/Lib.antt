@@ -2,4 +2,3 @@ pub mod Polynomial
 pub mod Codeword
 pub mod Decode
 pub mod Packed
-pub mod Search

@@ -11,11 +11,13 @@ use borrow.Author.Tests.{eqb-true, eqb-false}
 use lib.Dec.{eqb}
 use lib.Pow.{field, mod-mod-pow}
 use native.Mathlib.Nat.{suc-inj}
-use lib.ListN.{length, take, drop, replicate, length-drop, take-append-drop, drop-of-length-le}
-use lib.Seq.{drop-cons, length-take-le}
+use lib.ListN.{length, take, drop, replicate, length-drop, take-append-drop}
+use lib.Seq.{length-take-le}
 use Rattle.anc.specs.Word.{wordOf, isSound, checksumOf}
 use Rattle.anc.proofs.Laws.Word.{sound-is-word}
+use Rattle.basics.specs.Each.{all}
 use Rattle.basics.proofs.Laws.Test.{both-true, lt-or-le}
+use Rattle.basics.proofs.Laws.Parts.{part-entries, same-cons, last-one}
 use Rattle.refusal.proofs.Laws.Chain.{require-passed, next-passed}
 use Rattle.rs.specs.Codeword.{parityOf, Codeword}
 use Rattle.rs.specs.Decode.{repaired}
@@ -23,10 +25,10 @@ use Rattle.record.specs.Items.{items, broken}
 use Rattle.packet.specs.Protected.{lowBytes, soundWords, narrow, rewritten}
 use Rattle.packet.specs.Layout.{headerWord, protectedWords, summedWords, packetWords}
 use Rattle.packet.proofs.Laws.Protected.{low-words}
-use Rattle.rs.proofs.Laws.Repair.{repaired-codeword}
+use Rattle.rs.proofs.Laws.Decode.{repaired-codeword}
 use Rattle.packet.proofs.Laws.Layout.{packet-carries, summed-shape}
 use Rattle.packet.proofs.Laws.RoundTrip.{protected-on}
-use Rattle.packet.specs.Reading.{word, correctionOf, indexOf, protectedOf, readWords, readBytes, summedOf, allSound, allFill, protectedRefusal, readRefusal}
+use Rattle.packet.specs.Reading.{word, correctionOf, indexOf, protectedOf, readWords, readBytes, summedOf, isFill, headRefusal, protectedRefusal, bodyRefusal, readRefusal}
 
 -- ---- what an accepted packet has passed
 
@@ -41,20 +43,21 @@ pub record Accepted (ws : List ℕ) : Type 0 where
   pub count : word ws 5 ≡ 0x2FF
   pub sound : isSound (word ws 6) ≡ true
   pub zero-bits : word ws 6 / 16 % 8 ≡ 0
-  pub guarded : protectedRefusal ws ≡ none
+  pub guarded : protectedRefusal (correctionOf ws) (protectedOf ws) ≡ none
   pub sum : checksumOf (summedOf ws) ≡ word ws 261
   pub rules : broken items (readBytes ws) ≡ none
 
 pub accepted-parts : (ws : List ℕ) → readRefusal ws ≡ none → Accepted ws
-unfolding readRefusal
+unfolding readRefusal headRefusal bodyRefusal
 accepted-parts ws e =
-    let a = require-passed _ _ _ e in
+    let halves = next-passed _ _ e in
+    let a = require-passed _ _ _ (halves .0) in
     let b = require-passed _ _ _ (a .1) in
     let c = require-passed _ _ _ (b .1) in
     let d = require-passed _ _ _ (c .1) in
     let f = require-passed _ _ _ (d .1) in
     let g = require-passed _ _ _ (f .1) in
-    let h = next-passed _ _ (g .1) in
+    let h = next-passed _ _ (halves .1) in
     let i = require-passed _ _ _ (h .1) in
     let flags = both-true _ _ (c .0) in
     let front = both-true _ _ (flags .0) in
@@ -97,17 +100,17 @@ header-again w false s z e =
 
 -- ---- the protected words
 
-sound-again : (ws : List ℕ) → allSound ws ≡ true → soundWords (lowBytes ws) ≡ ws
-unfolding allSound soundWords lowBytes
+sound-again : (ws : List ℕ) → all isSound ws ≡ true → soundWords (lowBytes ws) ≡ ws
+unfolding all soundWords lowBytes
 sound-again [] s = refl
-sound-again (w ∷ ws) s = let b = both-true (isSound w) (allSound ws) s in ap₂ (λ (x : ℕ) (l : List ℕ). x ∷ l) (sym (sound-is-word w (b .0))) (sound-again ws (b .1))
+sound-again (w ∷ ws) s = let b = both-true (isSound w) (all isSound ws) s in ap₂ (λ (x : ℕ) (l : List ℕ). x ∷ l) (sym (sound-is-word w (b .0))) (sound-again ws (b .1))
 
-fill-again : (n : ℕ) (ws : List ℕ) → length ws ≡ n → allFill ws ≡ true → ws ≡ replicate n 0x200
-unfolding allFill
+fill-again : (n : ℕ) (ws : List ℕ) → length ws ≡ n → all isFill ws ≡ true → ws ≡ replicate n 0x200
+unfolding all
 fill-again zero [] e f = refl
 fill-again zero (w ∷ ws) e f = absurd (omega arith)
 fill-again (suc n) [] e f = absurd (omega arith)
-fill-again (suc n) (w ∷ ws) e f = let b = both-true (eqb w 0x200) (allFill ws) f in ap₂ (λ (x : ℕ) (l : List ℕ). x ∷ l) (eqb-true w 0x200 (b .0)) (fill-again n ws (suc-inj e) (b .1))
+fill-again (suc n) (w ∷ ws) e f = let b = both-true (isFill w) (all isFill ws) f in ap₂ (λ (x : ℕ) (l : List ℕ). x ∷ l) (eqb-true w 0x200 (b .0)) (fill-again n ws (suc-inj e) (b .1))
 
 take-low : (n : ℕ) (ws : List ℕ) → take n (lowBytes ws) ≡ lowBytes (take n ws)
 unfolding lowBytes
@@ -115,7 +118,7 @@ take-low zero ws = refl
 take-low (suc n) [] = refl
 take-low (suc n) (w ∷ ws) = ap (λ (l : List ℕ). w % 256 ∷ l) (take-low n ws)
 
-off-again : (q : List ℕ) → length q ≡ 254 → allSound (take 248 q) ≡ true → allFill (drop 248 q) ≡ true → protectedWords false (take 248 (lowBytes q)) ≡ q
+off-again : (q : List ℕ) → length q ≡ 254 → all isSound (take 248 q) ≡ true → all isFill (drop 248 q) ≡ true → protectedWords false (take 248 (lowBytes q)) ≡ q
 unfolding protectedWords
 off-again q n s f =
     ap₂ _++_ (ap soundWords (take-low 248 q) ∙ sound-again (take 248 q) s) (sym (fill-again 6 (drop 248 q) (length-drop 248 q ∙ omega arith) f))
@@ -128,26 +131,6 @@ on-again c C =
     (ap (λ (l : List ℕ). take 248 l ++ parityOf (take 248 l)) (low-words c (C .bytes)) ∙ ap (λ (l : List ℕ). take 248 c ++ l) (sym (C .parity)) ∙ take-append-drop 248 c)
 
 -- ---- the packet again
-
-first-seven : (ws : List ℕ) → 7 ≤ length ws
-    → take 7 ws ≡ word ws 0 ∷ word ws 1 ∷ word ws 2 ∷ word ws 3 ∷ word ws 4 ∷ word ws 5 ∷ word ws 6 ∷ []
-first-seven [] h = absurd (omega arith)
-first-seven (a ∷ []) h = absurd (omega arith)
-first-seven (a ∷ b ∷ []) h = absurd (omega arith)
-first-seven (a ∷ b ∷ c ∷ []) h = absurd (omega arith)
-first-seven (a ∷ b ∷ c ∷ d ∷ []) h = absurd (omega arith)
-first-seven (a ∷ b ∷ c ∷ d ∷ e ∷ []) h = absurd (omega arith)
-first-seven (a ∷ b ∷ c ∷ d ∷ e ∷ f ∷ []) h = absurd (omega arith)
-first-seven (a ∷ b ∷ c ∷ d ∷ e ∷ f ∷ g ∷ ws) h = refl
-
-pub first-four : (ws : List ℕ) → 7 ≤ length ws → take 4 (drop 3 ws) ≡ word ws 3 ∷ word ws 4 ∷ word ws 5 ∷ word ws 6 ∷ []
-first-four ws h =
-    ap (take 4) (drop-cons ws 3 0 (omega arith)) ∙ ap (λ (l : List ℕ). word ws 3 ∷ take 3 l) (drop-cons ws 4 0 (omega arith))
-    ∙ ap (λ (l : List ℕ). word ws 3 ∷ word ws 4 ∷ take 2 l) (drop-cons ws 5 0 (omega arith))
-    ∙ ap (λ (l : List ℕ). word ws 3 ∷ word ws 4 ∷ word ws 5 ∷ take 1 l) (drop-cons ws 6 0 (omega arith))
-
-last-one : (ws : List ℕ) → length ws ≡ 262 → drop 261 ws ≡ word ws 261 ∷ []
-last-one ws n = drop-cons ws 261 0 (omega arith) ∙ ap (λ (l : List ℕ). word ws 261 ∷ l) (drop-of-length-le ws {i = 262} (omega arith))
 
 pub length-part : (ws : List ℕ) → length ws ≡ 262 → length (protectedOf ws) ≡ 254
 unfolding protectedOf
@@ -164,13 +147,6 @@ protected-again ws A false e =
     let q = require-passed _ _ _ (p .1) in
     rw e (off-again (protectedOf ws) (length-part ws (A .long)) (p .0) (q .0))
 
-five : {a a′ b b′ c c′ d d′ : ℕ} {l l′ : List ℕ} → a ≡ a′ → b ≡ b′ → c ≡ c′ → d ≡ d′ → l ≡ l′ → a ∷ b ∷ c ∷ d ∷ l ≡ a′ ∷ b′ ∷ c′ ∷ d′ ∷ l′
-five p q r s t = cc
-
-nine : {a a′ b b′ c c′ d d′ e e′ f f′ g g′ : ℕ} {l l′ : List ℕ} → a ≡ a′ → b ≡ b′ → c ≡ c′ → d ≡ d′ → e ≡ e′ → f ≡ f′ → g ≡ g′ → l ≡ l′
-    → a ∷ b ∷ c ∷ d ∷ e ∷ f ∷ g ∷ l ≡ a′ ∷ b′ ∷ c′ ∷ d′ ∷ e′ ∷ f′ ∷ g′ ∷ l′
-nine p q r s t u v w = cc
-
 -- written again, an accepted packet is the words as they are read
 pub again : (ws : List ℕ) → readRefusal ws ≡ none → packetWords (correctionOf ws) (indexOf ws) (readBytes ws) ≡ take 7 ws ++ readWords ws ++ drop 261 ws
 unfolding correctionOf indexOf summedOf
@@ -181,10 +157,10 @@ again ws e =
     let h : headerWord on (indexOf ws) ≡ word ws 6 = header-again (word ws 6) on (A .sound) (A .zero-bits) refl in
     let p : protectedWords on r ≡ readWords ws = protected-again ws A on refl in
     let n : 7 ≤ length ws = omega (arith, A .long) in
+    let from-did : (l m : List ℕ) → l ≡ m → 0x25F ∷ 0x1FE ∷ 0x2FF ∷ headerWord on (indexOf ws) ∷ l ≡ word ws 3 ∷ word ws 4 ∷ word ws 5 ∷ word ws 6 ∷ m =
+    λ l m t. same-cons (sym (A .did)) (same-cons (sym (A .sdid)) (same-cons (sym (A .count)) (same-cons h t))) in
     let s : summedWords on (indexOf ws) r ≡ summedOf ws =
-    summed-shape on (indexOf ws) r
-    ∙ five (sym (A .did)) (sym (A .sdid)) (sym (A .count)) h p ∙ ap (λ (l : List ℕ). l ++ readWords ws) (sym (first-four ws n)) in
+    summed-shape on (indexOf ws) r ∙ from-did _ _ p ∙ ap (λ (l : List ℕ). l ++ readWords ws) (sym (part-entries 4 3 ws n)) in
     packet-carries on (indexOf ws) r
-    ∙ nine (sym (A .flag0)) (sym (A .flag1)) (sym (A .flag2)) (sym (A .did)) (sym (A .sdid)) (sym (A .count)) h
-    (ap₂ (λ (l : List ℕ) (c : ℕ). l ++ c ∷ []) p (ap checksumOf s ∙ A .sum))
-    ∙ ap₂ (λ (l m : List ℕ). l ++ readWords ws ++ m) (sym (first-seven ws n)) (sym (last-one ws (A .long)))
+    ∙ same-cons (sym (A .flag0)) (same-cons (sym (A .flag1)) (same-cons (sym (A .flag2)) (from-did _ _ (ap₂ (λ (l : List ℕ) (c : ℕ). l ++ c ∷ []) p (ap checksumOf s ∙ A .sum)))))
+    ∙ ap₂ (λ (l m : List ℕ). l ++ readWords ws ++ m) (sym (part-entries 7 0 ws n)) (sym (last-one ws 261 (A .long)))

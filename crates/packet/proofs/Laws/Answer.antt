@@ -21,17 +21,17 @@ use Rattle.record.specs.Checked.{checkedOf}
 use Rattle.record.specs.Written.{fits, written}
 use Rattle.record.specs.declared.Checked.{Checked}
 use Rattle.record.specs.declared.Checked.the-variants.{Passed, Refused}
-use Rattle.record.proofs.Laws.Read.{told}
+use Rattle.record.proofs.Laws.Checks.{told}
 use Rattle.packet.specs.Protected.{lowBytes, soundWords, rewritten, fixedOf}
-use Rattle.packet.specs.Repair.{leftBy}
-use Rattle.packet.specs.Reading.{correctionOf, indexOf, protectedOf, readWords, readBytes, summedOf, readFixed, protectedRefusal, readRefusal, readIntoRefusal, readRecord}
-use Rattle.packet.specs.Answer.{headRefusal, bodyRefusal, guardRefusal, guardBytes, summedBy, packetBy, tailRefusal, packetOf, readingBy, readingOf, readingIntoOf, readLeaves}
+use Rattle.refusal.specs.Chain.{leftBy}
+use Rattle.packet.specs.Reading.{correctionOf, indexOf, protectedOf, readWords, readBytes, summedOf, readFixed, headRefusal, protectedRefusal, bodyRefusal, readRefusal, readIntoRefusal, readRecord}
+use Rattle.packet.specs.Answer.{guardBytes, summedBy, packetBy, tailRefusal, refusalIn, packetIn, packetOf, readingBy, readingOf, readingIntoOf, readLeaves}
 use Rattle.packet.specs.declared.Packet.{Packet}
 use Rattle.packet.specs.declared.Reading.the-variants.{Accepted, Refused as RefusedReading}
 use Rattle.packet.proofs.Laws.Protected.{low-words, low-bytes}
 use Rattle.packet.proofs.Laws.Repair.{repaired-bytes}
 use Rattle.packet.proofs.Laws.Record.{rules-decide}
-use Rattle.packet.proofs.Laws.Reader.{cut, guardBytes-length}
+use Rattle.packet.proofs.Laws.Reader.{guardBytes-length}
 use Rattle.packet.proofs.Laws.Again.{accepted-parts, length-part}
 
 -- ---- the bytes that are read stand for the words that are read
@@ -61,22 +61,22 @@ data-rules ws n =
 -- ---- behind the header
 
 body-cut : (ws : List ℕ) → length ws ≡ 262
-    → bodyRefusal ws ≡ next (guardRefusal (correctionOf ws) (protectedOf ws)) (tailRefusal ws (correctionOf ws) (guardBytes (correctionOf ws) (protectedOf ws)))
-unfolding bodyRefusal protectedRefusal guardRefusal tailRefusal
+    → bodyRefusal ws ≡ next (protectedRefusal (correctionOf ws) (protectedOf ws)) (tailRefusal ws (correctionOf ws) (guardBytes (correctionOf ws) (protectedOf ws)))
+unfolding bodyRefusal tailRefusal
 body-cut ws n = sym (rw (summed-guard ws, data-rules ws n) refl)
 
-module _ (ws : List ℕ) (on : Bool) (g : Checked) (n : length ws ≡ 262) (eo : on ≡ correctionOf ws) (eg : g ≡ checkedOf (guardRefusal on (protectedOf ws))) where
-  same : guardRefusal (correctionOf ws) (protectedOf ws) ≡ guardRefusal on (protectedOf ws)
-  same = ap (λ (b : Bool). guardRefusal b (protectedOf ws)) (sym eo)
+module _ (ws : List ℕ) (on : Bool) (g : Checked) (n : length ws ≡ 262) (eo : on ≡ correctionOf ws) (eg : g ≡ checkedOf (protectedRefusal on (protectedOf ws))) where
+  same : protectedRefusal (correctionOf ws) (protectedOf ws) ≡ protectedRefusal on (protectedOf ws)
+  same = ap (λ (b : Bool). protectedRefusal b (protectedOf ws)) (sym eo)
 
   pub body-passed : (bytes : List ℕ) (t : Checked) → bytes ≡ guardBytes on (protectedOf ws) → g ≡ Passed → t ≡ checkedOf (tailRefusal ws on bytes) → t ≡ checkedOf (bodyRefusal ws)
   body-passed bytes t eb p et =
       et ∙ ap₂ (λ (b : Bool) (l : List ℕ). checkedOf (tailRefusal ws b l)) eo (eb ∙ ap (λ (b : Bool). guardBytes b (protectedOf ws)) eo)
-      ∙ sym (ap checkedOf (body-cut ws n ∙ ap (λ (o : Option Refusal). next o (tailRefusal ws (correctionOf ws) (guardBytes (correctionOf ws) (protectedOf ws)))) (same ∙ told (guardRefusal on (protectedOf ws)) g Passed eg p)))
+      ∙ sym (ap checkedOf (body-cut ws n ∙ ap (λ (o : Option Refusal). next o (tailRefusal ws (correctionOf ws) (guardBytes (correctionOf ws) (protectedOf ws)))) (same ∙ told (protectedRefusal on (protectedOf ws)) g Passed eg p)))
 
   pub body-refused : (why : Refusal) → g ≡ Refused why → Refused why ≡ checkedOf (bodyRefusal ws)
   body-refused why p =
-      sym (ap checkedOf (body-cut ws n ∙ ap (λ (o : Option Refusal). next o (tailRefusal ws (correctionOf ws) (guardBytes (correctionOf ws) (protectedOf ws)))) (same ∙ told (guardRefusal on (protectedOf ws)) g (Refused why) eg p)))
+      sym (ap checkedOf (body-cut ws n ∙ ap (λ (o : Option Refusal). next o (tailRefusal ws (correctionOf ws) (guardBytes (correctionOf ws) (protectedOf ws)))) (same ∙ told (protectedRefusal on (protectedOf ws)) g (Refused why) eg p)))
 
 -- ---- the whole chain
 
@@ -86,10 +86,12 @@ module _ (ws : List ℕ) (h : Checked) (eh : h ≡ checkedOf (headRefusal ws)) w
   head-long p = eqb-true _ _ (require-passed _ _ _ (told (headRefusal ws) h Passed eh p) .0)
 
   pub whole-passed : (b : Checked) → h ≡ Passed → b ≡ checkedOf (bodyRefusal ws) → b ≡ checkedOf (readRefusal ws)
-  whole-passed b p eb = eb ∙ sym (ap checkedOf (cut ws ∙ ap (λ (o : Option Refusal). next o (bodyRefusal ws)) (told (headRefusal ws) h Passed eh p)))
+  unfolding readRefusal
+  whole-passed b p eb = eb ∙ sym (ap checkedOf (ap (λ (o : Option Refusal). next o (bodyRefusal ws)) (told (headRefusal ws) h Passed eh p)))
 
   pub whole-refused : (why : Refusal) → h ≡ Refused why → Refused why ≡ checkedOf (readRefusal ws)
-  whole-refused why p = sym (ap checkedOf (cut ws ∙ ap (λ (o : Option Refusal). next o (bodyRefusal ws)) (told (headRefusal ws) h (Refused why) eh p)))
+  unfolding readRefusal
+  whole-refused why p = sym (ap checkedOf (ap (λ (o : Option Refusal). next o (bodyRefusal ws)) (told (headRefusal ws) h (Refused why) eh p)))
 
   pub left-passed : (l old : List ℕ) → h ≡ Passed → l ≡ leftBy (headRefusal ws) l old
   left-passed l old p = sym (ap (λ (o : Option Refusal). leftBy o l old) (told (headRefusal ws) h Passed eh p))
@@ -117,8 +119,9 @@ module _ (ws : List ℕ) (a : Checked) (ea : a ≡ checkedOf (readRefusal ws)) w
   -- the bytes that the checks left
   pub answer-bytes : (bytes old : List ℕ) → a ≡ Passed → bytes ≡ leftBy (headRefusal ws) (guardBytes (correctionOf ws) (protectedOf ws)) old
       → bytes ≡ guardBytes (correctionOf ws) (protectedOf ws)
+  unfolding readRefusal
   answer-bytes bytes old p e =
-      e ∙ ap (λ (o : Option Refusal). leftBy o (guardBytes (correctionOf ws) (protectedOf ws)) old) (next-passed (headRefusal ws) (bodyRefusal ws) (sym (cut ws) ∙ passes p) .0)
+      e ∙ ap (λ (o : Option Refusal). leftBy o (guardBytes (correctionOf ws) (protectedOf ws)) old) (next-passed (headRefusal ws) (bodyRefusal ws) (passes p) .0)
 
   pub answer-accepted : (bytes : List ℕ) (k : Packet) → a ≡ Passed → bytes ≡ guardBytes (correctionOf ws) (protectedOf ws) → k ≡ packetBy ws bytes → Accepted k ≡ readingOf ws
   unfolding readingOf
@@ -178,3 +181,23 @@ module _ (ws : List ℕ) (a : Checked) (ea : a ≡ checkedOf (readRefusal ws)) w
     pub left-as-it-was : out ≡ readLeaves ws out
     unfolding readLeaves
     left-as-it-was = sym (ap (λ (o : Option Refusal). leftBy o (readRecord ws) out) stopped)
+
+-- ---- what the answers say
+
+refusal-by : (o : Option Refusal) (k : Packet) → refusalIn (readingBy o k) ≡ o
+refusal-by none k = refl
+refusal-by (some why) k = refl
+
+-- the refusal that an answer tells is the one that the rules give
+pub refusal-said : (ws : List ℕ) → refusalIn (readingOf ws) ≡ readRefusal ws
+unfolding readingOf
+refusal-said ws = refusal-by (readRefusal ws) (packetOf ws)
+
+pub into-refusal-said : (ws : List ℕ) (room : ℕ) → refusalIn (readingIntoOf ws room) ≡ readIntoRefusal ws room
+unfolding readingIntoOf
+into-refusal-said ws room = refusal-by (readIntoRefusal ws room) (packetOf ws)
+
+-- where they give none it tells the packet
+pub packet-said : (ws : List ℕ) → readRefusal ws ≡ none → packetIn (readingOf ws) ≡ some (packetOf ws)
+unfolding readingOf
+packet-said ws e = ap (λ (o : Option Refusal). packetIn (readingBy o (packetOf ws))) e

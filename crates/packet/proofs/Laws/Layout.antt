@@ -7,36 +7,22 @@ use mathlib.Core.List.{List, [], _∷_, _++_}
 use mathlib.Core.Option.{none}
 use Prim.Native.Nat.{ℕ, _+_, _/_, _%_, _≤_, _<_}
 use native.Mathlib.Omega.{arith}
-use borrow.Author.Tests.{eq-eqb, ne-eqb, le-leb}
-use lib.Dec.{eqb, leb, lit<}
+use borrow.Author.Tests.{eq-eqb, ne-eqb}
+use lib.Dec.{eqb, lit<}
 use lib.ListN.{length, getD, take, length-append, replicate}
 use lib.Seq.{take-at, getD-at}
 use Rattle.anc.specs.Word.{wordOf, isSound, checksumOf}
 use Rattle.anc.proofs.Laws.Word.{word-lt, word-low, word-sound}
 use Rattle.anc.proofs.Laws.Checksum.{checksum-lt}
-use Rattle.basics.proofs.Laws.Test.{both-true}
+use Rattle.basics.specs.Each.{all}
 use Rattle.rs.specs.Codeword.{parityOf, Bytes}
 use Rattle.record.specs.Items.{items, broken}
 use Rattle.packet.specs.Protected.{lowBytes, soundWords, narrow}
 use Rattle.packet.specs.Layout.{flag, kind, headerWord, protectedWords, summedWords, packetWords}
-use Rattle.packet.specs.Reading.{correctionOf, indexOf, protectedOf, readWords, readBytes, summedOf, protectedRefusal, readRefusal}
-use Rattle.packet.proofs.Laws.Protected.{low-words}
+use Rattle.packet.specs.Reading.{correctionOf, indexOf, protectedOf, readWords, readBytes, summedOf, headRefusal, protectedRefusal, bodyRefusal, readRefusal}
+use Rattle.packet.proofs.Laws.Protected.{low-words, narrow-cons, narrow-append}
 
--- ---- lengths and narrow words
-
-pub narrow-cons : (w : ℕ) (ws : List ℕ) → w < 1024 → narrow ws ≡ true → narrow (w ∷ ws) ≡ true
-unfolding narrow
-narrow-cons w ws h p = ap₂ _&&_ (le-leb w 1023 (omega arith)) p
-
-pub narrow-append : (xs ys : List ℕ) → narrow xs ≡ true → narrow ys ≡ true → narrow (xs ++ ys) ≡ true
-unfolding narrow
-narrow-append [] ys p q = q
-narrow-append (x ∷ xs) ys p q = let b = both-true (leb x 1023) (narrow xs) p in ap₂ _&&_ (b .0) (narrow-append xs ys (b .1) q)
-
-pub words-narrow : (bytes : List ℕ) → Bytes bytes → narrow (soundWords bytes) ≡ true
-unfolding soundWords narrow
-words-narrow [] b = refl
-words-narrow (x ∷ bytes) b = ap₂ _&&_ (let h : wordOf x < 1024 = word-lt x (b .0) in le-leb (wordOf x) 1023 (omega arith)) (words-narrow bytes (b .1))
+-- ---- one list behind another
 
 pub words-append : (xs ys : List ℕ) → soundWords (xs ++ ys) ≡ soundWords xs ++ soundWords ys
 unfolding soundWords
@@ -132,7 +118,7 @@ module _ (on : Bool) (ci : ℕ) (r q : List ℕ) (hc : ci ≤ 15) (nr : length r
   carried-narrow =
       narrow-cons _ _ (lit< tt)
       (narrow-cons _ _ (lit< tt) (narrow-cons _ _ (lit< tt) (narrow-cons _ _ (lit< tt) (narrow-cons _ _ (lit< tt) (narrow-cons _ _ (lit< tt)
-      (narrow-cons _ _ (header-lt on ci hc) (narrow-append q _ wq (narrow-cons _ [] (checksum-lt _) (unfold narrow in refl)))))))))
+      (narrow-cons _ _ (header-lt on ci hc) (narrow-append q _ wq (narrow-cons _ [] (checksum-lt _) (unfold narrow all in refl)))))))))
 
   carried-last : getD ws 261 0 ≡ checksumOf (summedWords on ci r)
   carried-last = getD-at q (checksumOf (summedWords on ci r)) [] 0 254 nq
@@ -152,10 +138,10 @@ module _ (on : Bool) (ci : ℕ) (r q : List ℕ) (hc : ci ≤ 15) (nr : length r
         eq-eqb (checksumOf (summedOf ws)) (getD ws 261 0) (ap checksumOf e ∙ sym carried-last)
 
     -- once its protected words are read as they were written, the packet reads as what was written
-    pub reads : protectedRefusal ws ≡ none → broken items r ≡ none → Reads ws on ci r
+    pub reads : protectedRefusal (correctionOf ws) (protectedOf ws) ≡ none → broken items r ≡ none → Reads ws on ci r
     reads e b = record { accepted = accepted; correction = carried-correction; index = carried-index; bytes = carried-bytes }
       where
         accepted : readRefusal ws ≡ none
         accepted =
-            unfold readRefusal in
+            unfold readRefusal headRefusal bodyRefusal in
             simp (eq-eqb (length ws) 262 carried-length, carried-narrow, carried-header, e, carried-sum, carried-bytes, b)

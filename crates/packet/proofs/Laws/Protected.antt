@@ -1,18 +1,20 @@
--- The laws of the protected words: their lengths, the bytes that sound words carry, which words are narrow, the places in which words
--- differ, and a buffer that is filled place by place.
+-- The laws of the protected words: their lengths, the bytes that sound words carry, which words are narrow, and the places in which
+-- words differ.
 -- Assumes nothing.
 use mathlib.Core.Path.{_≡_, refl, sym, ap, ap₂, _∙_}
-use mathlib.Core.Bool.{true, false}
-use mathlib.Core.List.{List, [], _∷_, _++_, map, append-nil}
+use mathlib.Core.Bool.{Bool, true, _&&_}
+use mathlib.Core.List.{List, [], _∷_, _++_, map}
 use Prim.Native.Nat.{ℕ, zero, suc, _+_, _%_, _≤_, _<_}
 use native.Mathlib.Nat.{mod-lt, le-of-suc-le-suc, not-suc-le-zero}
 use native.Mathlib.Numerals.{add-one}
 use native.Mathlib.Omega.{arith}
-use borrow.Author.Tests.{le-leb, lt-leb}
-use lib.ListN.{length, take, drop, set, getD, length-map, drop-of-length-le}
-use lib.Seq.{take-all, drop-cons}
+use borrow.Author.Tests.{le-leb}
+use lib.ListN.{length, take, getD, length-map}
+use lib.Seq.{take-all}
 use Rattle.anc.specs.Word.{isSound, wordOf}
 use Rattle.anc.proofs.Laws.Word.{word-lt, word-low, word-sound}
+use Rattle.basics.specs.Each.{all}
+use Rattle.basics.proofs.Laws.Each.{all-append}
 use Rattle.rs.specs.Codeword.{Bytes}
 use Rattle.rs.specs.Decode.{changes}
 use Rattle.rs.proofs.Laws.Distance.{differ, place, differ-le, differ-same}
@@ -63,41 +65,25 @@ sound-at [] b i h = absurd (not-suc-le-zero h)
 sound-at (x ∷ bytes) b zero h = word-sound x (b .0)
 sound-at (x ∷ bytes) b (suc i) h = sound-at bytes (b .1) i (le-of-suc-le-suc h)
 
--- and has ten bits
-pub sound-lt : (bytes : List ℕ) → Bytes bytes → (i : ℕ) → getD (soundWords bytes) i 0 < 1024
-unfolding soundWords
-sound-lt [] b i = omega arith
-sound-lt (x ∷ bytes) b zero = word-lt x (b .0)
-sound-lt (x ∷ bytes) b (suc i) = sound-lt bytes (b .1) i
+-- a test that passes at the word of each byte passes at each word of bytes
+pub words-all : (f : ℕ → Bool) → ((b : ℕ) → b < 256 → f (wordOf b) ≡ true) → (bytes : List ℕ) → Bytes bytes → all f (soundWords bytes) ≡ true
+unfolding all soundWords
+words-all f h [] b = refl
+words-all f h (x ∷ bytes) b = ap₂ _&&_ (h x (b .0)) (words-all f h bytes (b .1))
 
 -- ---- narrow words
 
-narrow-cons : (w : ℕ) (ws : List ℕ) → w ≤ 1023 → narrow (w ∷ ws) ≡ narrow ws
+pub narrow-cons : (w : ℕ) (ws : List ℕ) → w < 1024 → narrow ws ≡ true → narrow (w ∷ ws) ≡ true
+unfolding narrow all
+narrow-cons w ws h p = ap₂ _&&_ (le-leb w 1023 (omega arith)) p
+
+pub narrow-append : (xs ys : List ℕ) → narrow xs ≡ true → narrow ys ≡ true → narrow (xs ++ ys) ≡ true
 unfolding narrow
-narrow-cons w ws h = simp (le-leb w 1023 h)
+narrow-append xs ys p q = all-append _ xs ys p q
 
-wide-cons : (w : ℕ) (ws : List ℕ) → 1023 < w → narrow (w ∷ ws) ≡ false
+pub words-narrow : (bytes : List ℕ) → Bytes bytes → narrow (soundWords bytes) ≡ true
 unfolding narrow
-wide-cons w ws h = simp (lt-leb w 1023 h)
-
--- past a narrow word the answer is that of the rest
-pub narrow-more : (ws : List ℕ) (i : ℕ) → i < length ws → getD ws i 0 ≤ 1023 → narrow (drop i ws) ≡ narrow (drop (i + 1) ws)
-narrow-more ws i h n = rw (add-one, drop-cons ws i 0) (narrow-cons (getD ws i 0) (drop (suc i) ws) n)
-
--- a wide word decides it
-pub narrow-stops : (ws : List ℕ) (i : ℕ) → i < length ws → 1023 < getD ws i 0 → narrow (drop i ws) ≡ false
-narrow-stops ws i h n = rw (drop-cons ws i 0) (wide-cons (getD ws i 0) (drop (suc i) ws) n)
-
--- past the last word there is none
-pub narrow-ends : (ws : List ℕ) (i : ℕ) → length ws ≤ i → narrow (drop i ws) ≡ true
-unfolding narrow
-narrow-ends ws i h = rw (drop-of-length-le ws h)
-
--- words of ten bits each are narrow
-pub narrow-all : (ws : List ℕ) → ((i : ℕ) → getD ws i 0 < 1024) → narrow ws ≡ true
-unfolding narrow
-narrow-all [] h = refl
-narrow-all (w ∷ ws) h = narrow-cons w ws (omega (arith, h 0)) ∙ narrow-all ws (λ i. h (suc i))
+words-narrow bytes b = words-all _ (λ x h. let n : wordOf x < 1024 = word-lt x h in le-leb (wordOf x) 1023 (omega arith)) bytes b
 
 -- ---- the places in which two lists differ
 
@@ -138,25 +124,3 @@ unfolding lowBytes changes
 low-changes [] b = omega arith
 low-changes (x ∷ a) [] = omega arith
 low-changes (x ∷ a) (y ∷ b) = omega (arith, low-differ x y, low-changes a b)
-
--- ---- a buffer filled place by place
-
--- new entries in the first i places, old ones in the others
-abbrev pub filled : List ℕ → List ℕ → ℕ → List ℕ
-filled new old i = take i new ++ drop i old
-
-filled-suc : (new old : List ℕ) (i : ℕ) → i < length new → i < length old → set (filled new old i) i (getD new i 0) ≡ filled new old (suc i)
-filled-suc [] old i h k = absurd (not-suc-le-zero h)
-filled-suc (x ∷ new) [] i h k = absurd (not-suc-le-zero k)
-filled-suc (x ∷ new) (y ∷ old) zero h k = refl
-filled-suc (x ∷ new) (y ∷ old) (suc i) h k = ap (λ (l : List ℕ). x ∷ l) (filled-suc new old i (le-of-suc-le-suc h) (le-of-suc-le-suc k))
-
--- one place more
-pub filled-more : (new old now′ : List ℕ) (i v : ℕ) → now′ ≡ filled new old i → i < length new → i < length old → getD new i 0 ≡ v
-    → set now′ i v ≡ filled new old (i + 1)
-filled-more new old now′ i v e h k g =
-    ap₂ (λ (l : List ℕ) (x : ℕ). set l i x) e (sym g) ∙ filled-suc new old i h k ∙ ap (filled new old) (sym (add-one i))
-
--- all places
-pub filled-all : (new old : List ℕ) (i : ℕ) → length new ≤ i → length old ≤ i → filled new old i ≡ new
-filled-all new old i h k = ap₂ (λ (l m : List ℕ). l ++ m) (take-all i new h) (drop-of-length-le old k) ∙ append-nil new

@@ -1,85 +1,50 @@
--- The laws of reading part by part: words that are passed one by one, the chain of checks cut behind the header, and the answer of each
--- way through it.
+-- The laws of reading part by part: what each way through the checks of the protected words answers, the words that are summed, and
+-- what is told of a packet.
 -- Assumes nothing.
 use mathlib.Core.Path.{_≡_, refl, sym, ap, _∙_}
-use mathlib.Core.Bool.{Bool, true, false, _&&_}
+use mathlib.Core.Bool.{Bool, true, false}
 use mathlib.Core.List.{List, [], _∷_, _++_, append-nil}
-use mathlib.Core.Option.{Option}
-use Prim.Native.Nat.{ℕ, suc, _+_, _%_, _≤_, _<_}
-use native.Mathlib.Numerals.{add-one}
+use Prim.Native.Nat.{ℕ, suc, _%_}
 use native.Mathlib.Omega.{arith}
-use lib.Dec.{eqb}
-use lib.ListN.{length, getD, take, drop, length-drop, drop-of-length-le}
-use lib.Seq.{drop-cons, take-all}
+use lib.ListN.{length, take, drop, length-drop}
+use lib.Seq.{take-all}
 use Rattle.anc.specs.Word.{isSound}
-use Rattle.refusal.specs.Chain.{require, next}
-use Rattle.refusal.specs.declared.Refusal.{Refusal}
 use Rattle.refusal.specs.Number.{refusalPlain}
 use Rattle.refusal.specs.declared.Reason.the-variants.{Parity, Fill, BeyondRepair}
 use Rattle.rs.specs.Decode.{changes, repairable, repaired}
 use Rattle.record.specs.Checked.{checkedOf}
 use Rattle.record.specs.declared.Checked.the-variants.{Passed, Refused}
-use Rattle.record.proofs.Laws.Parts.{join}
+use Rattle.basics.specs.Each.{all}
+use Rattle.basics.proofs.Laws.Parts.{join, part-entries}
 use Rattle.packet.specs.declared.Packet.{Packet}
 use Rattle.packet.specs.Protected.{lowBytes, soundWords, rewritten}
-use Rattle.packet.specs.Reading.{word, correctionOf, indexOf, protectedOf, allSound, allFill, readRefusal}
-use Rattle.packet.specs.Answer.{packetBy, headRefusal, bodyRefusal, guardRefusal, guardBytes, summedBy}
-use Rattle.packet.proofs.Laws.Again.{first-four}
+use Rattle.packet.specs.Reading.{word, correctionOf, indexOf, protectedOf, isFill, protectedRefusal}
+use Rattle.packet.specs.Answer.{packetBy, guardBytes, summedBy}
 use Rattle.packet.proofs.Laws.Protected.{lowBytes-length, soundWords-length, low-bytes, low-words}
 use Rattle.packet.proofs.Laws.Repair.{repaired-bytes, rewritten-length}
-
--- ---- words that are passed one by one
-
--- the answer is that of the word here and of the rest
-pub sound-step : (ws : List ℕ) (i : ℕ) → i < length ws → allSound (drop i ws) ≡ (isSound (getD ws i 0) && allSound (drop (i + 1) ws))
-unfolding allSound
-sound-step ws i h = ap allSound (drop-cons ws i 0 h) ∙ ap (λ (k : ℕ). isSound (getD ws i 0) && allSound (drop k ws)) (sym (add-one i))
-
-pub fill-step : (ws : List ℕ) (i : ℕ) → i < length ws → allFill (drop i ws) ≡ (eqb (getD ws i 0) 0x200 && allFill (drop (i + 1) ws))
-unfolding allFill
-fill-step ws i h = ap allFill (drop-cons ws i 0 h) ∙ ap (λ (k : ℕ). eqb (getD ws i 0) 0x200 && allFill (drop k ws)) (sym (add-one i))
-
--- past the last word there is none
-pub sound-ends : (ws : List ℕ) (i : ℕ) → length ws ≤ i → allSound (drop i ws) ≡ true
-unfolding allSound
-sound-ends ws i h = rw (drop-of-length-le ws h)
-
-pub fill-ends : (ws : List ℕ) (i : ℕ) → length ws ≤ i → allFill (drop i ws) ≡ true
-unfolding allFill
-fill-ends ws i h = rw (drop-of-length-le ws h)
-
--- ---- the chain of checks, cut behind the header
-
-require-next : (t : Bool) (why : Refusal) (rest more : Option Refusal) → next (require t why rest) more ≡ require t why (next rest more)
-require-next true why rest more = refl
-require-next false why rest more = refl
-
-pub cut : (words : List ℕ) → readRefusal words ≡ next (headRefusal words) (bodyRefusal words)
-unfolding readRefusal headRefusal bodyRefusal
-cut words = sym (simp require-next)
 
 -- ---- the protected words
 
 module _ (on : Bool) (ws : List ℕ) where
-  pub beyond : on ≡ true → repairable (lowBytes ws) ≡ false → Refused (refusalPlain BeyondRepair) ≡ checkedOf (guardRefusal on ws)
-  unfolding guardRefusal
+  pub beyond : on ≡ true → repairable (lowBytes ws) ≡ false → Refused (refusalPlain BeyondRepair) ≡ checkedOf (protectedRefusal on ws)
+  unfolding protectedRefusal
   beyond e r = rw (e, r)
 
-  pub mended : on ≡ true → repairable (lowBytes ws) ≡ true → Passed ≡ checkedOf (guardRefusal on ws)
-  unfolding guardRefusal
+  pub mended : on ≡ true → repairable (lowBytes ws) ≡ true → Passed ≡ checkedOf (protectedRefusal on ws)
+  unfolding protectedRefusal
   mended e r = rw (e, r)
 
-  pub unsound : on ≡ false → allSound (take 248 ws) ≡ false → Refused (refusalPlain Parity) ≡ checkedOf (guardRefusal on ws)
-  unfolding guardRefusal
+  pub unsound : on ≡ false → all isSound (take 248 ws) ≡ false → Refused (refusalPlain Parity) ≡ checkedOf (protectedRefusal on ws)
+  unfolding protectedRefusal
   unsound e s = rw (e, s)
 
-  pub unfilled : on ≡ false → allSound (take 248 ws) ≡ true → allFill (drop 248 ws) ≡ false
-      → Refused (refusalPlain Fill) ≡ checkedOf (guardRefusal on ws)
-  unfolding guardRefusal
+  pub unfilled : on ≡ false → all isSound (take 248 ws) ≡ true → all isFill (drop 248 ws) ≡ false
+      → Refused (refusalPlain Fill) ≡ checkedOf (protectedRefusal on ws)
+  unfolding protectedRefusal
   unfilled e s f = rw (e, s, f)
 
-  pub sound-and-filled : on ≡ false → allSound (take 248 ws) ≡ true → allFill (drop 248 ws) ≡ true → Passed ≡ checkedOf (guardRefusal on ws)
-  unfolding guardRefusal
+  pub sound-and-filled : on ≡ false → all isSound (take 248 ws) ≡ true → all isFill (drop 248 ws) ≡ true → Passed ≡ checkedOf (protectedRefusal on ws)
+  unfolding protectedRefusal
   sound-and-filled e s f = rw (e, s, f)
 
   -- the repaired bytes are those of the words that they are rewritten as
@@ -113,7 +78,7 @@ pub summed-on : (ws bytes l : List ℕ) → length ws ≡ 262 → l ≡ soundWor
 unfolding summedBy
 summed-on ws bytes l n e =
     ap (λ (m : List ℕ). word ws 3 ∷ word ws 4 ∷ word ws 5 ∷ word ws 6 ∷ m) (append-nil l ∙ e)
-    ∙ ap (λ (m : List ℕ). m ++ soundWords bytes) (sym (first-four ws (omega arith)))
+    ∙ ap (λ (m : List ℕ). m ++ soundWords bytes) (sym (part-entries 4 3 ws (omega arith)))
 
 pub summed-off : (ws bytes : List ℕ) → take 258 (drop 3 ws) ≡ summedBy false ws bytes
 unfolding summedBy protectedOf

@@ -12,16 +12,17 @@ use lib.ListN.{length, getD}
 use Rattle.anc.specs.Word.{isSound}
 use Rattle.rs.specs.Codeword.{Bytes, Codeword}
 use Rattle.rs.specs.Decode.{changes, decode, given, repairable, repaired}
-use Rattle.rs.proofs.Laws.Distance.{changes-self, changes-sym, changes-le-length}
+use Rattle.rs.proofs.Laws.Distance.{changes-sym, changes-le-length}
 use Rattle.rs.proofs.Laws.Decode.{Within, decode-sound, decode-complete}
+use Rattle.refusal.specs.Chain.{leftBy}
 use Rattle.refusal.specs.Number.{refusalPlain}
 use Rattle.refusal.specs.declared.Reason.the-variants.{Size, Wide, BeyondRepair, Room}
 use Rattle.refusal.specs.declared.Refusal.{Refusal}
 use Rattle.packet.specs.declared.Repaired.{Repaired}
 use Rattle.packet.specs.declared.Repaired.the-variants.{Fixed, Refused}
 use Rattle.packet.specs.Protected.{lowBytes, soundWords, narrow, rewritten, fixedOf, repairRefusal}
-use Rattle.packet.specs.Repair.{refusalIn, fixedIn, repairedBy, repairedOf, leftBy, repairLeaves}
-use Rattle.packet.proofs.Laws.Protected.{lowBytes-length, soundWords-length, low-bytes, low-words, sound-at, sound-lt, narrow-all, low-changes}
+use Rattle.packet.specs.Repair.{refusalIn, fixedIn, repairedBy, repairedOf, repairLeaves}
+use Rattle.packet.proofs.Laws.Protected.{lowBytes-length, soundWords-length, low-bytes, low-words, sound-at, low-changes}
 
 -- ---- repaired bytes
 
@@ -52,14 +53,6 @@ unfolding rewritten
 rewritten-sound words i h =
     sound-at (repaired (lowBytes words)) (repaired-bytes _ (low-bytes words)) i (omega (arith, repaired-length (lowBytes words), lowBytes-length words))
 
--- and has ten bits
-pub rewritten-lt : (words : List ℕ) (i : ℕ) → getD (rewritten words) i 0 < 1024
-unfolding rewritten
-rewritten-lt words i = sound-lt (repaired (lowBytes words)) (repaired-bytes _ (low-bytes words)) i
-
-pub rewritten-narrow : (words : List ℕ) → narrow (rewritten words) ≡ true
-rewritten-narrow words = narrow-all (rewritten words) (rewritten-lt words)
-
 -- of 254 words at most 254 are fixed
 pub fixed-le : (words : List ℕ) → length words ≡ 254 → fixedOf words ≤ 254
 unfolding fixedOf
@@ -87,12 +80,6 @@ repair-recovers c words C n h =
     let near : changes (lowBytes words) c ≤ 3 = rw sent at few in
     decoded c words
     (decode-complete (lowBytes words) c C (C .long ∙ sym n ∙ sym (lowBytes-length words)) (rw (changes-sym c (lowBytes words)) near))
-
--- none did
-pub clean-fixed : (c : List ℕ) → Codeword c → (rewritten (soundWords c) ≡ soundWords c) × (fixedOf (soundWords c) ≡ 0)
-clean-fixed c C =
-    let R = repair-recovers c (soundWords c) C (soundWords-length c ∙ C .long) (omega (arith, changes-self (soundWords c))) in
-    (R .recovered, R .counted ∙ changes-self (soundWords c))
 
 -- ---- the answer of repair
 

@@ -1,14 +1,16 @@
 -- Read after write, with and without damage: what was written is what is read, and fixed is the number of words that changed.
 -- Assumes nothing.
-use mathlib.Core.Path.{_≡_, refl, sym, ap, ap₂, _∙_, subst}
-use mathlib.Core.Bool.{Bool, true, false, _&&_}
-use mathlib.Core.List.{List, [], _∷_, _++_}
+use mathlib.Core.Path.{_≡_, refl, sym, ap, _∙_, subst}
+use mathlib.Core.Bool.{Bool, true, false}
+use mathlib.Core.List.{List, _++_}
 use mathlib.Core.Option.{none}
 use Prim.Native.Nat.{ℕ, _≤_}
 use native.Mathlib.Omega.{arith}
 use lib.ListN.{length, take, drop, length-append, replicate}
 use lib.Seq.{take-at, drop-at}
+use Rattle.anc.specs.Word.{isSound}
 use Rattle.anc.proofs.Laws.Word.{word-sound}
+use Rattle.basics.specs.Each.{all}
 use Rattle.rs.specs.Codeword.{parityOf, Bytes, Codeword}
 use Rattle.rs.specs.Decode.{changes}
 use Rattle.rs.proofs.Laws.Distance.{changes-self}
@@ -17,10 +19,10 @@ use Rattle.rs.proofs.Laws.Polynomial.{append-bytes}
 use Rattle.record.specs.Items.{items, broken}
 use Rattle.packet.specs.Protected.{soundWords, narrow}
 use Rattle.packet.specs.Layout.{protectedWords, packetWords}
-use Rattle.packet.specs.Reading.{correctionOf, protectedOf, readWords, readFixed, allSound, allFill, protectedRefusal}
-use Rattle.packet.proofs.Laws.Protected.{soundWords-length}
+use Rattle.packet.specs.Reading.{correctionOf, protectedOf, readWords, readFixed, isFill, protectedRefusal}
+use Rattle.packet.proofs.Laws.Protected.{soundWords-length, words-all, words-narrow, narrow-append}
 use Rattle.packet.proofs.Laws.Repair.{Recovered, repair-recovers}
-use Rattle.packet.proofs.Laws.Layout.{words-append, words-narrow, narrow-append, carrying, packet-carries, Reads, carried-correction, carried-protected, reads}
+use Rattle.packet.proofs.Laws.Layout.{words-append, carrying, packet-carries, Reads, carried-correction, carried-protected, reads}
 
 -- ---- data and parity are a codeword
 
@@ -56,7 +58,7 @@ module _ (ci : ℕ) (r q : List ℕ) (hc : ci ≤ 15) (nr : length r ≡ 248) (b
   protected : protectedOf ws ≡ q
   protected = carried-protected true ci r q hc nr br nq wq
 
-  passes : protectedRefusal ws ≡ none
+  passes : protectedRefusal (correctionOf ws) (protectedOf ws) ≡ none
   unfolding protectedRefusal
   passes = simp (on, protected, mend .readable)
 
@@ -73,15 +75,10 @@ module _ (ci : ℕ) (r q : List ℕ) (hc : ci ≤ 15) (nr : length r ≡ 248) (b
 
 -- ---- as it was written
 
-sound-words : (bytes : List ℕ) → Bytes bytes → allSound (soundWords bytes) ≡ true
-unfolding allSound soundWords
-sound-words [] b = refl
-sound-words (x ∷ bytes) b = ap₂ _&&_ (word-sound x (b .0)) (sound-words bytes (b .1))
-
 protected-narrow : (on : Bool) (r : List ℕ) → Bytes r → narrow (protectedWords on r) ≡ true
 unfolding protectedWords
 protected-narrow true r b = narrow-append _ _ (words-narrow r b) (words-narrow (parityOf r) (parity-bytes r))
-protected-narrow false r b = narrow-append _ _ (words-narrow r b) (unfold narrow in refl)
+protected-narrow false r b = narrow-append _ _ (words-narrow r b) (unfold narrow all in refl)
 
 module _ (ci : ℕ) (r : List ℕ) (hc : ci ≤ 15) (nr : length r ≡ 248) (br : Bytes r) where
   abbrev off-words : List ℕ
@@ -101,13 +98,13 @@ module _ (ci : ℕ) (r : List ℕ) (hc : ci ≤ 15) (nr : length r ≡ 248) (br 
   unfolding protectedWords
   off-fill = drop-at (soundWords r) _ 248 (soundWords-length r ∙ nr)
 
-  six-fill : allFill (replicate 6 0x200) ≡ true
-  unfolding allFill
+  six-fill : all isFill (replicate 6 0x200) ≡ true
+  unfolding all
   six-fill = refl
 
-  off-passes : protectedRefusal off-words ≡ none
+  off-passes : protectedRefusal (correctionOf off-words) (protectedOf off-words) ≡ none
   unfolding protectedRefusal
-  off-passes = simp (off, off-protected, off-data, off-fill, sound-words r br, six-fill)
+  off-passes = simp (off, off-protected, off-data, off-fill, words-all isSound word-sound r br, six-fill)
 
   off-read : readWords off-words ≡ protectedWords false r
   unfolding readWords

@@ -12,7 +12,7 @@ use lib.Seq.{drop-drop, length-take-le}
 use Rattle.rs.specs.Codeword.{Bytes}
 use Rattle.rs.proofs.Laws.Distance.{changes-zero}
 use Rattle.rs.proofs.Laws.Polynomial.{take-bytes}
-use Rattle.rs.proofs.Laws.Repair.{repaired-codeword}
+use Rattle.rs.proofs.Laws.Decode.{repaired-codeword}
 use Rattle.record.specs.Items.{recordOf}
 use Rattle.refusal.proofs.Laws.Chain.{require-passed}
 use Rattle.packet.specs.Protected.{lowBytes, rewritten, fixedOf}

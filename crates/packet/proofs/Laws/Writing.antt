@@ -5,12 +5,12 @@ use mathlib.Core.Path.{_≡_, refl, sym, ap, ap₂, _∙_}
 use mathlib.Core.Bool.{Bool, cond}
 use mathlib.Core.List.{List, [], _∷_, _++_, append-assoc, append-nil}
 use mathlib.Core.Option.{Option, none, some}
-use Prim.Native.Nat.{ℕ, suc, _+_, _≤_, _<_}
+use Prim.Native.Nat.{ℕ, _+_, _≤_, _<_}
 use native.Mathlib.Omega.{arith}
 use borrow.Author.Tests.{eq-eqb, ne-eqb, le-leb, lt-leb}
 use borrow.Rule.Slice.PartMut.{putMid}
 use lib.ListN.{length, getD, set, take, drop, replicate, length-append, drop-of-length-le}
-use lib.Seq.{sets, sets-eq, set-at, take-at, drop-at, drop-cons, drop-drop}
+use lib.Seq.{sets, sets-eq, set-at, take-at, drop-at, drop-drop}
 use Rattle.anc.specs.Word.{checksumOf}
 use Rattle.refusal.specs.Number.{refusalPlain}
 use Rattle.refusal.specs.declared.Reason.the-variants.{Size, Index, Room}
@@ -18,20 +18,21 @@ use Rattle.refusal.specs.declared.Refusal.{Refusal}
 use Rattle.rs.specs.Codeword.{parityOf}
 use Rattle.record.specs.declared.Checked.{Checked}
 use Rattle.record.specs.declared.Checked.the-variants.{Passed, Refused as Broken}
-use Rattle.record.specs.Checked.{checkedOf, refusalIn}
+use Rattle.record.specs.Checked.{checkedOf, refusalIn as refusalInCheck}
 use Rattle.record.specs.Items.{items, broken, recordOf, recordRefusal}
 use Rattle.record.specs.Written.{written}
 use Rattle.record.proofs.Laws.Record.{record-fits}
-use Rattle.record.proofs.Laws.Checks.{refusal-in}
-use Rattle.record.proofs.Laws.Parts.{over}
+use Rattle.record.proofs.Laws.Checks.{told}
+use Rattle.basics.proofs.Laws.Parts.{over, last-one}
 use Rattle.packet.specs.declared.Written.{Written}
 use Rattle.packet.specs.declared.Written.the-variants.{Done, Refused}
 use Rattle.packet.specs.Protected.{soundWords}
 use Rattle.packet.specs.Layout.{flag, kind, headerWord, protectedWords, summedWords, packetWords}
-use Rattle.packet.specs.Repair.{leftBy}
+use Rattle.refusal.specs.Chain.{leftBy}
 use Rattle.packet.specs.Writing.{writeRefusal, writtenWords}
-use Rattle.packet.specs.Written.{refusalOf, writtenBy, writtenOf, writeLeaves}
+use Rattle.packet.specs.Written.{refusalIn, writtenBy, writtenOf, writeLeaves}
 use Rattle.packet.proofs.Laws.Protected.{soundWords-length}
+use Rattle.packet.proofs.Laws.Record.{rules-decide}
 use Rattle.packet.proofs.Laws.RoundTrip.{length-protected}
 
 -- past the end there is nothing
@@ -46,10 +47,6 @@ stored l vs n =
     sets-eq vs l 0 (omega arith) ∙ rw (past l (0 + length vs) (omega arith)) (append-nil vs)
 
 -- ---- parts laid over a buffer
-
--- the last word
-last-one : (l : List ℕ) (i : ℕ) → length l ≡ suc i → drop i l ≡ getD l i 0 ∷ []
-last-one l i n = drop-cons l i 0 (omega arith) ∙ ap (λ (r : List ℕ). getD l i 0 ∷ r) (past l (suc i) (omega arith))
 
 -- three parts, one behind the other
 abbrev pub laid : List ℕ → List ℕ → List ℕ → List ℕ → List ℕ
@@ -127,21 +124,18 @@ module _ (on : Bool) (ci : ℕ) (bytes old : List ℕ) where
   unfolding writeRefusal
   wrong-index n i = answer (some (refusalPlain Index)) (simp (eq-eqb (length bytes) 248 n, lt-leb ci 15 i))
 
-  -- what the check of 248 bytes answers is what their rules give
-  rules-said : (said : Checked) → length bytes ≡ 248 → said ≡ checkedOf (recordRefusal bytes) → broken items bytes ≡ refusalIn said
-  unfolding recordRefusal
-  rules-said said n e =
-      let all : recordRefusal bytes ≡ broken items bytes = simp (eq-eqb (length bytes) 248 n) in
-      sym all ∙ sym (refusal-in (recordRefusal bytes)) ∙ sym (ap refusalIn e)
-
   module _ (said : Checked) (n : length bytes ≡ 248) (i : ci ≤ 15) (e : said ≡ checkedOf (recordRefusal bytes)) where
+    -- what the check of 248 bytes answers is what their rules give
+    rules-said : (a : Checked) → said ≡ a → broken items bytes ≡ refusalInCheck a
+    rules-said a s = sym (rules-decide bytes n) ∙ told (recordRefusal bytes) said a e s
+
     pub rule-broken : (why : Refusal) → said ≡ Broken why → Answer on ci bytes old (Refused why) old
     unfolding writeRefusal
-    rule-broken why s = answer (some why) (simp (eq-eqb (length bytes) 248 n, le-leb ci 15 i, rules-said said n e ∙ ap refusalIn s))
+    rule-broken why s = answer (some why) (simp (eq-eqb (length bytes) 248 n, le-leb ci 15 i, rules-said (Broken why) s))
 
     module _ (s : said ≡ Passed) where
       rules-kept : broken items bytes ≡ none
-      rules-kept = rules-said said n e ∙ ap refusalIn s
+      rules-kept = rules-said Passed s
 
       pub wrong-room : (length old ≡ 262 → ⊥) → Answer on ci bytes old (Refused (refusalPlain Room)) old
       unfolding writeRefusal
@@ -157,10 +151,10 @@ module _ (on : Bool) (ci : ℕ) (bytes old : List ℕ) where
           (answer none (simp (eq-eqb (length bytes) 248 n, le-leb ci 15 i, rules-kept, eq-eqb (length old) 262 m)))
 
 -- the refusal that an answer gives is the one that the rules give
-pub refusal-said : (ci : ℕ) (bytes : List ℕ) (room : ℕ) → refusalOf (writtenOf ci bytes room) ≡ writeRefusal ci bytes room
+pub refusal-said : (ci : ℕ) (bytes : List ℕ) (room : ℕ) → refusalIn (writtenOf ci bytes room) ≡ writeRefusal ci bytes room
 unfolding writtenOf
 refusal-said ci bytes room = go (writeRefusal ci bytes room)
   where
-    go : (o : Option Refusal) → refusalOf (writtenBy o) ≡ o
+    go : (o : Option Refusal) → refusalIn (writtenBy o) ≡ o
     go none = refl
     go (some why) = refl

@@ -1,6 +1,6 @@
 -- The refusal in an answer, the checks of 248 bytes, one after the other, and what a test that a call answered says of the rule.
 -- Assumes nothing.
-use mathlib.Core.Path.{_≡_, refl, sym, _∙_}
+use mathlib.Core.Path.{_≡_, refl, sym, ap, _∙_}
 use mathlib.Core.Bool.{Bool, true, false, not}
 use mathlib.Core.List.{List}
 use mathlib.Core.Option.{Option, none, some}
@@ -13,21 +13,20 @@ use Rattle.refusal.specs.Number.{refusalAt}
 use Rattle.refusal.specs.declared.Reason.the-variants.{Station, Time, Picture, Sound}
 use Rattle.refusal.specs.declared.Refusal.{Refusal}
 use Rattle.record.specs.declared.Checked.{Checked}
-use Rattle.record.specs.declared.Checked.the-variants.{Passed, Refused}
 use Rattle.record.specs.Checked.{checkedOf, refusalIn}
 use Rattle.record.specs.Rules.{stationRule, timeRule, pictureRule, soundByte, soundRule}
 use Rattle.record.specs.Items.{items, part, broken, recordRefusal}
 use Rattle.record.proofs.Laws.Rules.{sound-part}
 
--- ---- an answer tells its refusal, and each answer is that of one
+-- ---- an answer tells its refusal
 
 pub refusal-in : (o : Option Refusal) → refusalIn (checkedOf o) ≡ o
 refusal-in none = refl
 refusal-in (some no′) = refl
 
-pub checked-of : (answer : Checked) → checkedOf (refusalIn answer) ≡ answer
-checked-of Passed = refl
-checked-of (Refused no′) = refl
+-- the refusal of an answer that turned out to be b
+pub told : (o : Option Refusal) (a b : Checked) → a ≡ checkedOf o → a ≡ b → o ≡ refusalIn b
+told o a b e d = sym (refusal-in o) ∙ ap refusalIn (sym e ∙ d)
 
 -- ---- a test that a call answered
 

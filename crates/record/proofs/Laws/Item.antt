@@ -12,7 +12,7 @@ use borrow.Author.Tests.{ne-eqb}
 use Rattle.refusal.specs.Chain.{require, passed}
 use Rattle.refusal.specs.Number.{refusalAt, refusalPlain}
 use Rattle.refusal.specs.declared.Reason.the-variants.{Item, Size}
-use Rattle.record.specs.Items.{Row, items}
+use Rattle.record.specs.Items.{Row, free, items}
 use Rattle.record.specs.Item.{rowOf, refusedIn, itemRefusal, placeIn, placeOf, ruleIn, ruleOf, reasonIn, reasonOf}
 use Rattle.basics.proofs.Laws.Test.{below, below-at, both-left, both-right}
 
@@ -55,22 +55,18 @@ either-row : {X : Type 0} (g : Option Row → X) (t : Bool) (i : Row) (o : Optio
 either-row g true i o x p q = p
 either-row g false i o x p q = q
 
--- an item that may hold anything
-abbrev pub freeRow : ℕ → ℕ → ℕ → Row
-freeRow k f l = record { number = k; first = f; long = l; rule = λ bytes. true; reason = Item; clean = λ bytes. bytes }
-
--- what is so of such an item and where there is none is so at each number but those of the six rules
-pub no-rule : {X : Type 0} (g : Option Row → X) (n : ℕ) (x : X) → ((k f l : ℕ) → g (some (freeRow k f l)) ≡ x) → g none ≡ x
+-- what is so of an item that may hold anything and where there is none is so at each number but those of the six rules
+pub no-rule : {X : Type 0} (g : Option Row → X) (n : ℕ) (x : X) → ((k f l : ℕ) → g (some (free k f l)) ≡ x) → g none ≡ x
     → (n ≡ 1 → ⊥) → (n ≡ 2 → ⊥) → (n ≡ 3 → ⊥) → (n ≡ 4 → ⊥) → (n ≡ 6 → ⊥) → (n ≡ 7 → ⊥) → g (rowOf n items) ≡ x
 unfolding rowOf items
 no-rule g n x q p n1 n2 n3 n4 n6 n7 =
     simp (ne-eqb n 1 n1, ne-eqb n 2 n2, ne-eqb n 3 n3, ne-eqb n 4 n4, ne-eqb n 6 n6, ne-eqb n 7 n7)
-    (either-row g (eqb n 5) (freeRow 5 26 1) _ x (q 5 26 1)
-    (either-row g (eqb n 8) (freeRow 8 29 1) _ x (q 8 29 1)
-    (either-row g (eqb n 9) (freeRow 9 30 4) _ x (q 9 30 4)
-    (either-row g (eqb n 10) (freeRow 10 34 4) _ x (q 10 34 4)
-    (either-row g (eqb n 11) (freeRow 11 38 4) _ x (q 11 38 4)
-    (either-row g (eqb n 12) (freeRow 12 42 2) _ x (q 12 42 2) p))))))
+    (either-row g (eqb n 5) (free 5 26 1) _ x (q 5 26 1)
+    (either-row g (eqb n 8) (free 8 29 1) _ x (q 8 29 1)
+    (either-row g (eqb n 9) (free 9 30 4) _ x (q 9 30 4)
+    (either-row g (eqb n 10) (free 10 34 4) _ x (q 10 34 4)
+    (either-row g (eqb n 11) (free 11 38 4) _ x (q 11 38 4)
+    (either-row g (eqb n 12) (free 12 42 2) _ x (q 12 42 2) p))))))
 
 -- ---- where the items stand
 

@@ -14,7 +14,7 @@ use borrow.Rule.Slice.PartMut.{putMid}
 use Rattle.record.specs.Rules.{pictureClean}
 use Rattle.record.specs.Items.{items, part, cleaned, recordOf, recordRefusal}
 use Rattle.record.specs.Written.{fits, written}
-use Rattle.record.proofs.Laws.Parts.{join, skip, part-same, entry-same, over}
+use Rattle.basics.proofs.Laws.Parts.{join, skip, part-same, entry-same, over}
 use Rattle.record.proofs.Laws.Checks.{six-checks}
 use Rattle.record.proofs.Laws.Clean.{clean-length, clean-bytes, clean-again, clean-rule}
 

@@ -1,7 +1,7 @@
--- How the tests of lists go on from an entry to the rest, and what the tests of a byte come to.
+-- How the test of any entry goes on from an entry to the rest, and what the tests of a byte come to.
 -- Assumes nothing.
 use mathlib.Core.Path.{_≡_, refl, sym, ap, _∙_}
-use mathlib.Core.Bool.{Bool, true, false, _&&_, _||_, and-true, Bool·beq}
+use mathlib.Core.Bool.{Bool, true, false, _||_, and-true, Bool·beq}
 use mathlib.Core.List.{List}
 use Prim.Native.Nat.{ℕ, _+_, _*_, _≤_, _<_}
 use native.Mathlib.Numerals.{add-one}
@@ -9,24 +9,17 @@ use native.Mathlib.Omega.{arith}
 use lib.Dec.{eqb}
 use lib.ListN.{length, getD, take, drop, drop-of-length-le}
 use lib.Seq.{drop-cons, take-all}
-use Rattle.record.specs.Rules.{all, oneOf, soundByte, soundRule, sameSent}
+use Rattle.basics.specs.Each.{all}
+use Rattle.record.specs.Rules.{oneOf, soundByte, soundRule, sameSent}
 
--- ---- a test of each entry, and of any
+-- ---- a test of any entry
 
 -- the entry at i, and then the rest
-pub all-step : (f : ℕ → Bool) (l : List ℕ) (i : ℕ) → i < length l → all f (drop i l) ≡ (f (getD l i 0) && all f (drop (i + 1) l))
-unfolding all
-all-step f l i h = rw (add-one, drop-cons l i 0 h)
-
 pub oneOf-step : (l : List ℕ) (n i : ℕ) → i < length l → oneOf (drop i l) n ≡ (eqb n (getD l i 0) || oneOf (drop (i + 1) l) n)
 unfolding oneOf
 oneOf-step l n i h = rw (add-one, drop-cons l i 0 h)
 
 -- no entry is left
-pub all-end : (f : ℕ → Bool) (l : List ℕ) (i : ℕ) → length l ≤ i → all f (drop i l) ≡ true
-unfolding all
-all-end f l i h = rw (drop-of-length-le l h)
-
 pub oneOf-end : (l : List ℕ) (n i : ℕ) → length l ≤ i → oneOf (drop i l) n ≡ false
 unfolding oneOf
 oneOf-end l n i h = rw (drop-of-length-le l h)

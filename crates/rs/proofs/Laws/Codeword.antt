@@ -8,14 +8,15 @@ use Prim.Native.Nat.{ℕ, _≤_, _<_}
 use native.Mathlib.Omega.{arith}
 use lib.ListN.{length, take, drop, length-append, length-drop, length-replicate, take-append-drop}
 use lib.Seq.{drop-at, length-take-le}
+use borrow.Author.Tests.{eq-eqb, ne-eqb}
 use Rattle.gf256.specs.Field.{_⊕_, _⊗_, pow}
 use Rattle.gf256.proofs.Laws.Sum.{⊕-self, ⊕-zero-l}
 use Rattle.gf256.proofs.Laws.Product.{⊗-zero-r}
 use Rattle.basics.proofs.Laws.Test.{lt-or-le}
 use Rattle.rs.specs.Polynomial.{valueAt, _⊞_, zeros, _⊠_}
-use Rattle.rs.specs.Codeword.{G, parityOf, Bytes, Codeword}
+use Rattle.rs.specs.Codeword.{G, parityOf, leftOf, Bytes, Codeword}
 use Rattle.rs.specs.Decode.{changes}
-use Rattle.rs.proofs.Laws.Polynomial.{append-bytes, take-bytes, value-⊞, value-append, value-above, value-moved, length-⊠, value-⊠}
+use Rattle.rs.proofs.Laws.Polynomial.{append-bytes, take-bytes, ⊞-self, ⊞-zero-eq, value-⊞, value-append, value-above, value-moved, length-⊠, value-⊠}
 use Rattle.rs.proofs.Laws.Division.{divisor-length, parity-length, parity-bytes, quotient-exists, divisor-root}
 use Rattle.rs.proofs.Laws.Distance.{changes-via, changes-after, close-equal}
 
@@ -46,6 +47,42 @@ pub codeword-vanishes : (w : List ℕ) → Codeword w → (j : ℕ) → j < 6 �
 codeword-vanishes w c j h =
     ap (valueAt (pow 2 j)) (sym (take-append-drop 248 w) ∙ ap (_++_ (take 248 w)) (c .parity))
     ∙ parity-vanishes (take 248 w) (take-bytes 248 w (c .bytes)) j h
+
+-- ---- what the division leaves of a block
+
+pub left-short : (l : List ℕ) → (length l ≡ 254 → ⊥) → leftOf l ≡ zeros 6
+unfolding leftOf
+left-short l n = rw (ne-eqb _ _ n) refl
+
+pub left-long : (l : List ℕ) → length l ≡ 254 → leftOf l ≡ parityOf (take 248 l) ⊞ drop 248 l
+unfolding leftOf
+left-long l n = rw (eq-eqb _ _ n) refl
+
+module _ (l : List ℕ) (n : length l ≡ 254) where
+  pub last-six : length (drop 248 l) ≡ 6
+  last-six = length-drop 248 l ∙ omega arith
+
+  pub as-long : length (parityOf (take 248 l)) ≡ length (drop 248 l)
+  as-long = parity-length (take 248 l) ∙ sym last-six
+
+  -- it has the values of the block
+  pub left-value : Bytes l → (j : ℕ) → j < 6 → valueAt (pow 2 j) (leftOf l) ≡ valueAt (pow 2 j) l
+  left-value b j h =
+      ap (valueAt (pow 2 j)) (left-long l n) ∙ remainder-value (take 248 l) (drop 248 l) last-six (take-bytes 248 l b) j h
+      ∙ ap (valueAt (pow 2 j)) (take-append-drop 248 l)
+
+  -- it is 0 exactly where the block is a codeword
+  pub zero-codeword : Bytes l → leftOf l ≡ zeros 6 → Codeword l
+  zero-codeword b z = record {
+    long = n;
+    bytes = b;
+    parity = sym (⊞-zero-eq _ _ as-long (sym (left-long l n) ∙ z ∙ ap (λ (k : ℕ). zeros k) (sym last-six)));
+  }
+
+pub codeword-zero : (l : List ℕ) → Codeword l → leftOf l ≡ zeros 6
+codeword-zero l C =
+    left-long l (C .long) ∙ ap (λ (m : List ℕ). parityOf (take 248 l) ⊞ m) (C .parity) ∙ ⊞-self _
+    ∙ ap (λ (k : ℕ). zeros k) (parity-length (take 248 l))
 
 -- ---- codewords are what vanishes, and no two are near each other
 

@@ -1,19 +1,19 @@
 -- The laws of decode: it gives the codeword that differs from what was delivered in at most three places, of which there is at most one,
--- and none exactly where there is no such codeword.
+-- and none exactly where there is no such codeword. And what repair answers by it.
 -- Assumes nothing.
 use mathlib.Core.Path.{_≡_, refl, sym, ap, ap₂, _∙_, subst}
 use mathlib.Core.Bool.{Bool, true, false, cond, _&&_}
 use mathlib.Core.List.{List, [], _∷_, map, List·Memᴰ, List·Memᴰ·head, List·Memᴰ·tail, List·Memᴰ·not-nil, List·Memᴰ·cases-cons, List·Memᴰ·append-cases, List·Memᴰ·eq-of-singleton, Memᴰ·append-left, Memᴰ·append-right, Memᴰ·map, Memᴰ·of-map, Memᴰ·cast}
 use mathlib.Core.Logic.{_⊎_, inl, inr, ⊎-elim}
-use mathlib.Core.Option.{Option, none, some}
+use mathlib.Core.Option.{Option, none, some, Option·getD}
 use Prim.Native.Nat.{ℕ, zero, suc, _+_, _≤_, _<_}
 use native.Mathlib.Nat.{suc-inj}
 use native.Mathlib.Omega.{arith}
 use lib.Dec.{T, eqb, ltb, eqb→eq, eqb-refl, ltb→lt, lt→ltb}
 use lib.ListN.{length, take, drop}
-use Rattle.basics.proofs.Laws.Test.{both-left, both-right, lt-or-le}
+use Rattle.basics.proofs.Laws.Test.{both-left, both-right, never, lt-or-le}
 use Rattle.rs.specs.Codeword.{Bytes, Codeword, parityOf}
-use Rattle.rs.specs.Decode.{changes, same, allBytes, isCodeword, fronted, near, firstCodeword, decode}
+use Rattle.rs.specs.Decode.{changes, same, allBytes, isCodeword, fronted, near, firstCodeword, given, decode, repairable, repaired}
 use Rattle.rs.proofs.Laws.Distance.{place, differ-le, differ-same, changes-zero, changes-self, changes-le-length}
 use Rattle.rs.proofs.Laws.Codeword.{codeword-unique}
 
@@ -33,7 +33,7 @@ unfolding allBytes
 bytes-all [] b = tt
 bytes-all (a ∷ l) b = both (ltb a 256) (allBytes l) (lt→ltb a 256 (b .0)) (bytes-all l (b .1))
 
-same-equal : (l m : List ℕ) → T (same l m) → l ≡ m
+pub same-equal : (l m : List ℕ) → T (same l m) → l ≡ m
 unfolding same
 same-equal [] [] t = refl
 same-equal [] (b ∷ m) t = absurd t
@@ -41,7 +41,7 @@ same-equal (a ∷ l) [] t = absurd t
 same-equal (a ∷ l) (b ∷ m) t =
     ap₂ (λ (x : ℕ) (y : List ℕ). x ∷ y) (eqb→eq a b (both-left (eqb a b) (same l m) t)) (same-equal l m (both-right (eqb a b) (same l m) t))
 
-same-self : (l : List ℕ) → T (same l l)
+pub same-self : (l : List ℕ) → T (same l l)
 unfolding same
 same-self [] = tt
 same-self (a ∷ l) = both (eqb a a) (same l l) (eqb-refl a) (same-self l)
@@ -200,3 +200,33 @@ decode-self c C = decode-complete c c C refl (omega (arith, changes-self c))
 
 pub decode-short : (r : List ℕ) → (length r ≡ 254 → ⊥) → decode r ≡ none
 decode-short r n = decode-none r (λ c C l h. n (sym l ∙ C .long))
+
+-- ---- what repair answers, by what decode gives
+
+-- of what was delivered, what is said and what is left
+pub record Answer (before : List ℕ) (r : Bool) (after : List ℕ) : Type 0 where
+  pub said : r ≡ repairable before
+  pub left : after ≡ repaired before
+
+pub some-answer : (l c : List ℕ) → decode l ≡ some c → Answer l true c
+unfolding repairable repaired
+some-answer l c e = record { said = sym (ap given e); left = sym (ap (λ o. Option·getD o l) e) }
+
+pub none-answer : (l : List ℕ) → decode l ≡ none → Answer l false l
+unfolding repairable repaired
+none-answer l e = record { said = sym (ap given e); left = sym (ap (λ o. Option·getD o l) e) }
+
+pub short-answer : (l : List ℕ) → (length l ≡ 254 → ⊥) → Answer l false l
+short-answer l n = none-answer l (decode-short l n)
+
+pub codeword-answer : (l : List ℕ) → Codeword l → Answer l true l
+codeword-answer l C = some-answer l l (decode-self l C)
+
+-- what repair gives where it says yes is a codeword
+pub repaired-codeword : (l : List ℕ) → repairable l ≡ true → Codeword (repaired l)
+unfolding repairable repaired
+repaired-codeword l = go (decode l) refl
+  where
+    go : (o : Option (List ℕ)) → decode l ≡ o → given o ≡ true → Codeword (Option·getD o l)
+    go none e y = never (sym y)
+    go (some c) e y = decode-sound l c e .word

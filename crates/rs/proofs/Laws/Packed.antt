@@ -9,18 +9,19 @@ use native.Mathlib.Numerals.{add-one}
 use native.Mathlib.Omega.{arith}
 use lib.Bits.{bitXor, xor-block, xor-comm, xor-shifted}
 use lib.Dec.{lit<}
-use lib.ListN.{length, length-append, length-drop, length-set, take, drop, getD, set}
+use lib.ListN.{length, length-append, length-set, take, drop, getD, set}
 use lib.Pow.{pow-mono}
 use lib.Seq.{getD-drop, getD-set-same, getD-set-other}
 use Rattle.gf256.specs.Field.{_⊕_, _⊗_, double, pow}
 use Rattle.basics.proofs.Laws.Test.{lt-or-le}
-use Rattle.gf256.proofs.Laws.Sum.{⊕-assoc, ⊕-comm, ⊕-self, ⊕-zero-r, ⊕-zero-eq, ⊕-lt}
+use Rattle.gf256.proofs.Laws.Sum.{⊕-assoc, ⊕-comm, ⊕-self, ⊕-zero-r, ⊕-lt}
 use Rattle.gf256.proofs.Laws.Product.{⊗-assoc, ⊗-⊕-l, ⊗-zero-l, ⊗-one-l, two-double}
 use Rattle.rs.specs.Polynomial.{_⊞_, scale}
-use Rattle.rs.specs.Codeword.{divisorBytes, next, remainder, parityOf, Bytes}
+use Rattle.rs.specs.Codeword.{divisorBytes, next, remainder, parityOf, leftOf, Bytes}
 use Rattle.rs.specs.Packed.{pack, unpack, turn, Multiples, Extended}
-use Rattle.rs.proofs.Laws.Polynomial.{bytes-at, length-scale, scale-bytes, append-bytes}
+use Rattle.rs.proofs.Laws.Polynomial.{bytes-at, length-⊞, length-scale, ⊞-bytes, scale-bytes, append-bytes, drop-bytes}
 use Rattle.rs.proofs.Laws.Division.{parity-length, parity-bytes, parity-step}
+use Rattle.rs.proofs.Laws.Codeword.{left-long, last-six, as-long}
 
 -- ---- a list by its entries
 
@@ -71,10 +72,6 @@ unpack-pack (suc n) [] e x = absurd (omega arith)
 unpack-pack (suc n) (b ∷ l) e x =
     ap₂ (λ (d w : ℕ). d ∷ unpack n w) (digit-mod (pack l) b (x .0)) (digit-div (pack l) b (x .0))
     ∙ ap (λ (m : List ℕ). b ∷ m) (unpack-pack n l (suc-inj e) (x .1))
-
--- two lists of one length are equal where their numbers are
-pub pack-inj : (l m : List ℕ) → length l ≡ length m → Bytes l → Bytes m → pack l ≡ pack m → l ≡ m
-pack-inj l m e x y q = sym (unpack-pack (length m) l e x) ∙ ap (unpack (length m)) q ∙ unpack-pack (length m) m refl y
 
 -- ---- the turn is the step
 
@@ -147,26 +144,21 @@ look-up g t s j b e = ap (λ (n : ℕ). getD t n 0) e ∙ b (s % 256) (mod-lt s 
 
 -- ---- the remainder of data with six bytes
 
--- it is 0 exactly where the six are the parity
-pub remainder-zero : (d m : List ℕ) → length m ≡ 6 → Bytes m
-    → (pack (parityOf d ⊞ m) ≡ 0 → parityOf d ≡ m) × (parityOf d ≡ m → pack (parityOf d ⊞ m) ≡ 0)
-remainder-zero d m e y =
-    let n : length (parityOf d) ≡ length m = parity-length d ∙ sym e in
-    let s : pack (parityOf d ⊞ m) ≡ pack (parityOf d) ⊕ pack m = pack-⊞ (parityOf d) m n (parity-bytes d) y in (
-      λ z. pack-inj (parityOf d) m n (parity-bytes d) y (⊕-zero-eq _ _ (sym s ∙ z)),
-      λ q. s ∙ ap (λ (l : List ℕ). pack l ⊕ pack m) q ∙ ⊕-self (pack m),
-    )
-
 -- the parity of the first 248 and the last six, one by one, add up to the remainder
 pub remainder-sum : (l : List ℕ) → length l ≡ 254 → ((i : ℕ) → getD l i 0 < 256)
     → pack (parityOf (take 248 l)) ⊕ pack (entries 6 (λ i. getD l (248 + i) 0)) ≡ pack (parityOf (take 248 l) ⊞ drop 248 l)
 remainder-sum l e h =
     let m : List ℕ = drop 248 l in
     let p : List ℕ = parityOf (take 248 l) in
-    let n : length m ≡ 6 = length-drop 248 l ∙ omega arith in
     let b : Bytes m = bytes-at m (λ i. rw getD-drop (h (248 + i))) in
-    ap (λ (k : List ℕ). pack p ⊕ pack k) (simp getD-drop at (entries-all 6 m n))
-    ∙ sym (pack-⊞ p m (parity-length (take 248 l) ∙ sym n) (parity-bytes (take 248 l)) b)
+    ap (λ (k : List ℕ). pack p ⊕ pack k) (simp getD-drop at (entries-all 6 m (last-six l e)))
+    ∙ sym (pack-⊞ p m (as-long l e) (parity-bytes (take 248 l)) b)
+
+-- and its six bytes are what the division leaves
+pub left-unpacked : (l : List ℕ) → length l ≡ 254 → Bytes l → unpack 6 (pack (parityOf (take 248 l) ⊞ drop 248 l)) ≡ leftOf l
+left-unpacked l e b =
+    unpack-pack 6 _ (length-⊞ _ _ (as-long l e) ∙ last-six l e) (⊞-bytes _ _ (parity-bytes (take 248 l)) (drop-bytes 248 l b))
+    ∙ sym (left-long l e)
 
 -- ---- twice a byte
 

@@ -92,6 +92,11 @@ pub ⊞-cancel : (l m : List ℕ) → length l ≡ length m → l ⊞ (l ⊞ m) 
 ⊞-cancel l m e =
     sym (⊞-assoc l l m) ∙ ap (λ (z : List ℕ). z ⊞ m) (⊞-self l ∙ ap (λ (n : ℕ). zeros n) e) ∙ ⊞-zeros-l m
 
+-- two lists whose sum is 0 are one
+pub ⊞-zero-eq : (l m : List ℕ) → length l ≡ length m → l ⊞ m ≡ zeros (length m) → l ≡ m
+⊞-zero-eq l m e z =
+    sym (⊞-cancel m l (sym e)) ∙ ap (_⊞_ m) (⊞-comm m l ∙ z) ∙ ⊞-comm m (zeros (length m)) ∙ ⊞-zeros-l m
+
 -- a sum of joined lists, part by part
 pub ⊞-append : (a b c d : List ℕ) → length a ≡ length c → (a ++ b) ⊞ (c ++ d) ≡ (a ⊞ c) ++ (b ⊞ d)
 unfolding _⊞_

@@ -7,7 +7,8 @@ use native.Mathlib.Omega.{arith}
 use borrow.Author.Needs.{needs}
 use lib.ListN.{length, length-set}
 use Rattle.packet.specs.Protected.{lowBytes}
-use Rattle.packet.proofs.Laws.Protected.{lowBytes-length, lowBytes-at, filled, filled-more, filled-all}
+use Rattle.packet.proofs.Laws.Protected.{lowBytes-length, lowBytes-at}
+use Rattle.basics.proofs.Laws.Parts.{filled, filled-more, filled-all}
 use Rattle.packet.proofs.protected.low_bytes.Statement.{statement}
 use Rattle.packet.proofs.protected.low_bytes.Tie as tie
 

@@ -2,40 +2,48 @@
 -- what is left of the length.
 -- Assumes nothing.
 use mathlib.Core.Path.{_≡_, refl, sym, _∙_}
-use Prim.Native.Nat.{_≤_, _-_}
+use mathlib.Core.Bool.{Bool}
+use Prim.Native.Nat.{ℕ, _≤_, _-_}
 use native.Mathlib.Omega.{arith}
 use borrow.Author.Needs.{needs}
+use borrow.Author.Tests.{le-leb, lt-leb}
+use lib.Dec.{leb}
 use lib.ListN.{length, drop}
 use Rattle.packet.specs.Protected.{narrow}
-use Rattle.packet.proofs.Laws.Protected.{narrow-more, narrow-stops, narrow-ends}
+use Rattle.basics.specs.Each.{all}
+use Rattle.basics.proofs.Laws.Each.{all-step, all-end}
 use Rattle.packet.proofs.protected.narrow.Statement.{statement}
 use Rattle.packet.proofs.protected.narrow.Tie as tie
 
+abbrev fits : ℕ → Bool
+fits w = leb w 1023
+
 abbrev Inv-loop : tie.InvT-loop
-Inv-loop words i₀ i = (i ≤ length words) × (narrow words ≡ narrow (drop i words))
+Inv-loop words i₀ i = (i ≤ length words) × (narrow words ≡ all fits (drop i words))
 
 abbrev μ-loop : tie.MeasureT-loop
 μ-loop words i₀ i = length words - i
 
 loop-holds : tie.Need-loop-holds Inv-loop μ-loop
+unfolding narrow
 loop-holds c = (omega arith, refl)
 
 returns : tie.Need-returns Inv-loop μ-loop
 returns c =
     let l = c .before .before .before .loop in
     let ws = c .before .before .before .before .args .words .now in
-    sym (l .inv .1 ∙ narrow-stops ws (l .i) (omega arith) (omega arith))
+    sym (l .inv .1 ∙ all-step fits ws (l .i) (omega arith) ∙ rw (lt-leb _ 1023 (c .if1 .taken)))
 
 loop-again : tie.Need-loop-again Inv-loop μ-loop
 loop-again c =
     let l = c .before .before .before .loop in
     let ws = c .before .before .before .before .args .words .now in
-    (omega arith, l .inv .1 ∙ narrow-more ws (l .i) (omega arith) (omega arith))
+    (omega arith, l .inv .1 ∙ all-step fits ws (l .i) (omega arith) ∙ rw (le-leb _ 1023 (c .if1 .left)))
 
 returns-2 : tie.Need-returns-2 Inv-loop μ-loop
 returns-2 c =
     let l = c .before .loop in
-    sym (l .inv .1 ∙ narrow-ends (c .before .before .args .words .now) (l .i) (omega arith))
+    sym (l .inv .1 ∙ all-end fits (c .before .before .args .words .now) (l .i) (omega arith))
 
 pub narrow-spec : {M : Type 1} → statement M
 narrow-spec =

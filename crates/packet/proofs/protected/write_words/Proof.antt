@@ -7,7 +7,8 @@ use native.Mathlib.Omega.{arith}
 use borrow.Author.Needs.{needs}
 use lib.ListN.{length, length-set}
 use Rattle.packet.specs.Protected.{soundWords}
-use Rattle.packet.proofs.Laws.Protected.{soundWords-length, soundWords-at, filled, filled-more, filled-all}
+use Rattle.packet.proofs.Laws.Protected.{soundWords-length, soundWords-at}
+use Rattle.basics.proofs.Laws.Parts.{filled, filled-more, filled-all}
 use Rattle.packet.proofs.protected.write_words.Statement.{statement}
 use Rattle.packet.proofs.protected.write_words.Tie as tie
 

@@ -7,13 +7,14 @@ use native.Mathlib.Omega.{arith}
 use borrow.Author.Needs.{needs}
 use borrow.Author.Tests.{eq-eqb, ne-eqb}
 use lib.ListN.{length, drop}
-use Rattle.packet.specs.Reading.{allFill}
-use Rattle.packet.proofs.Laws.Reader.{fill-step, fill-ends}
+use Rattle.packet.specs.Reading.{isFill}
+use Rattle.basics.specs.Each.{all}
+use Rattle.basics.proofs.Laws.Each.{all-step, all-end}
 use Rattle.packet.proofs.reader.all_fill.Statement.{statement}
 use Rattle.packet.proofs.reader.all_fill.Tie as tie
 
 abbrev Inv-loop : tie.InvT-loop
-Inv-loop words i₀ i = (i ≤ length words) × (allFill words ≡ allFill (drop i words))
+Inv-loop words i₀ i = (i ≤ length words) × (all isFill words ≡ all isFill (drop i words))
 
 abbrev μ-loop : tie.MeasureT-loop
 μ-loop words i₀ i = length words - i
@@ -25,18 +26,18 @@ returns : tie.Need-returns Inv-loop μ-loop
 returns c =
     let l = c .before .before .before .loop in
     let ws = c .before .before .before .before .args .words .now in
-    sym (l .inv .1 ∙ fill-step ws (l .i) (omega arith) ∙ rw (ne-eqb _ _ (c .if1 .taken)))
+    sym (l .inv .1 ∙ all-step isFill ws (l .i) (omega arith) ∙ rw (ne-eqb _ _ (c .if1 .taken)))
 
 loop-again : tie.Need-loop-again Inv-loop μ-loop
 loop-again c =
     let l = c .before .before .before .loop in
     let ws = c .before .before .before .before .args .words .now in
-    (omega arith, l .inv .1 ∙ fill-step ws (l .i) (omega arith) ∙ rw (eq-eqb _ _ (c .if1 .left)))
+    (omega arith, l .inv .1 ∙ all-step isFill ws (l .i) (omega arith) ∙ rw (eq-eqb _ _ (c .if1 .left)))
 
 returns-2 : tie.Need-returns-2 Inv-loop μ-loop
 returns-2 c =
     let l = c .before .loop in
-    sym (l .inv .1 ∙ fill-ends (c .before .before .args .words .now) (l .i) (omega arith))
+    sym (l .inv .1 ∙ all-end isFill (c .before .before .args .words .now) (l .i) (omega arith))
 
 pub all-fill-spec : {M : Type 1} → statement M
 all-fill-spec =

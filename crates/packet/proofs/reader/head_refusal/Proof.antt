@@ -3,13 +3,14 @@
 use borrow.Author.Needs.{needs}
 use borrow.Author.Tests.{eq-eqb, ne-eqb}
 use Rattle.record.proofs.Laws.Checks.{passes, fails}
-use Rattle.packet.specs.Answer.{headRefusal}
+use lib.ListN.{length}
+use Rattle.packet.specs.Reading.{headRefusal}
 use Rattle.packet.proofs.reader.head_refusal.Statement.{statement}
 use Rattle.packet.proofs.reader.head_refusal.Tie as tie
 
 returns : tie.Need-returns
 unfolding headRefusal
-returns c = simp (ne-eqb _ _ (c .before .if1 .taken)) (rw (c .plain .ensures))
+returns c = simp (ne-eqb (length (c .before .before .before .args .words .now)) 262 (c .before .if1 .taken)) (rw (c .plain .ensures))
 
 returns-2 : tie.Need-returns-2
 unfolding headRefusal

@@ -5,7 +5,8 @@ use borrow.Author.Needs.{needs}
 use Rattle.rs.specs.Decode.{repairable, repaired}
 use Rattle.record.proofs.Laws.Checks.{passes, fails}
 use Rattle.record.specs.declared.Checked.the-variants.{Refused}
-use Rattle.packet.specs.Reading.{allFill}
+use Rattle.basics.specs.Each.{all}
+use Rattle.packet.specs.Reading.{isFill}
 use Rattle.packet.proofs.Laws.Reader.{beyond, mended, unsound, unfilled, sound-and-filled, bytes-on, bytes-off, last-six}
 use Rattle.packet.proofs.reader.read_bytes.Statement.{statement}
 use Rattle.packet.proofs.reader.read_bytes.Tie as tie
@@ -53,7 +54,7 @@ returns-4 c =
     let b = t .before .before .before in
     let s = b .before .before .before .before in
     let ws = s .args .words .now in (
-      ap Refused (c .plain3 .ensures) ∙ unfilled _ ws (t .if1 .left) (passes (a .all-sound .ensures) (f .before .before .if3 .left)) (fails (f .all-fill .ensures ∙ ap allFill (last-six ws (s .pre .0))) (c .before .if4 .taken)),
+      ap Refused (c .plain3 .ensures) ∙ unfilled _ ws (t .if1 .left) (passes (a .all-sound .ensures) (f .before .before .if3 .left)) (fails (f .all-fill .ensures ∙ ap (all isFill) (last-six ws (s .pre .0))) (c .before .if4 .taken)),
       b .low-bytes .ensures ∙ bytes-off _ ws (t .if1 .left),
     )
 
@@ -65,7 +66,7 @@ returns-5 c =
     let b = t .before .before .before in
     let s = b .before .before .before .before in
     let ws = s .args .words .now in (
-      sound-and-filled _ ws (t .if1 .left) (passes (a .all-sound .ensures) (f .before .before .if3 .left)) (passes (f .all-fill .ensures ∙ ap allFill (last-six ws (s .pre .0))) (c .if4 .left)),
+      sound-and-filled _ ws (t .if1 .left) (passes (a .all-sound .ensures) (f .before .before .if3 .left)) (passes (f .all-fill .ensures ∙ ap (all isFill) (last-six ws (s .pre .0))) (c .if4 .left)),
       b .low-bytes .ensures ∙ bytes-off _ ws (t .if1 .left),
     )
 

@@ -6,8 +6,9 @@ use Prim.Native.Nat.{_-_, _≤_}
 use native.Mathlib.Omega.{arith}
 use lib.ListN.{length, drop}
 use borrow.Author.Tests.{not-true, not-false}
-use Rattle.record.specs.Rules.{all, stationByte, stationRule}
-use Rattle.record.proofs.Laws.Rules.{all-step, all-end}
+use Rattle.basics.specs.Each.{all}
+use Rattle.basics.proofs.Laws.Each.{all-step, all-end}
+use Rattle.record.specs.Rules.{stationByte, stationRule}
 use borrow.Author.Needs.{needs}
 use Rattle.record.proofs.rules.station.Statement.{statement}
 use Rattle.record.proofs.rules.station.Tie as tie

@@ -1,0 +1,184 @@
+-- Each call's answer is the only one that its contract allows, and so is what it leaves in a buffer that it was lent. `Learnt` is the
+-- contract as its caller may use it.
+-- Assumes nothing.
+use mathlib.Core.Path.{_≡_, sym, _∙_}
+use denote.Ref.{now}
+use Rattle.promises.specs.Only.{OneAnswer, OnePart, OneOutcome}
+use Rattle.gf256.proofs.Laws.Tables.{powers-unique, logs-unique}
+use Rattle.gf256.proofs.Laws.Lent.{wheel-unique}
+use Rattle.refusal.proofs.number.Kinds as number-types
+use Rattle.refusal.proofs.number.Reads as number-contract
+use Rattle.refusal.proofs.plain.Kinds as plain-types
+use Rattle.refusal.proofs.plain.Reads as plain-contract
+use Rattle.refusal.proofs.at.Kinds as at-types
+use Rattle.refusal.proofs.at.Reads as at-contract
+use Rattle.anc.proofs.word_of.Kinds as word-of-types
+use Rattle.anc.proofs.word_of.Reads as word-of-contract
+use Rattle.anc.proofs.is_sound.Kinds as is-sound-types
+use Rattle.anc.proofs.is_sound.Reads as is-sound-contract
+use Rattle.anc.proofs.checksum.Kinds as checksum-types
+use Rattle.anc.proofs.checksum.Reads as checksum-contract
+use Rattle.gf256.proofs.powers.Kinds as powers-types
+use Rattle.gf256.proofs.powers.Reads as powers-contract
+use Rattle.gf256.proofs.logs.Kinds as logs-types
+use Rattle.gf256.proofs.logs.Reads as logs-contract
+use Rattle.gf256.proofs.wheel.Kinds as wheel-types
+use Rattle.gf256.proofs.wheel.Reads as wheel-contract
+use Rattle.gf256.proofs.log_in.Kinds as log-in-types
+use Rattle.gf256.proofs.log_in.Reads as log-in-contract
+use Rattle.gf256.proofs.product_in.Kinds as product-in-types
+use Rattle.gf256.proofs.product_in.Reads as product-in-contract
+use Rattle.gf256.proofs.quotient_in.Kinds as quotient-in-types
+use Rattle.gf256.proofs.quotient_in.Reads as quotient-in-contract
+use Rattle.gf256.proofs.sum.Kinds as sum-types
+use Rattle.gf256.proofs.sum.Reads as sum-contract
+use Rattle.gf256.proofs.product.Kinds as product-types
+use Rattle.gf256.proofs.product.Reads as product-contract
+use Rattle.gf256.proofs.quotient.Kinds as quotient-types
+use Rattle.gf256.proofs.quotient.Reads as quotient-contract
+use Rattle.rs.proofs.divisor.Kinds as divisor-types
+use Rattle.rs.proofs.divisor.Reads as divisor-contract
+use Rattle.rs.proofs.parity.Kinds as parity-types
+use Rattle.rs.proofs.parity.Reads as parity-contract
+use Rattle.rs.proofs.remainder.Kinds as remainder-types
+use Rattle.rs.proofs.remainder.Reads as remainder-contract
+use Rattle.search.proofs.repair.Kinds as search-repair-types
+use Rattle.search.proofs.repair.Reads as search-repair-contract
+use Rattle.record.proofs.record_refusal.Kinds as record-refusal-types
+use Rattle.record.proofs.record_refusal.Reads as record-refusal-contract
+use Rattle.record.proofs.write_record.Kinds as write-record-types
+use Rattle.record.proofs.write_record.Reads as write-record-contract
+use Rattle.record.proofs.private_part.Kinds as private-part-types
+use Rattle.record.proofs.private_part.Reads as private-part-contract
+use Rattle.record.proofs.item_place.Kinds as item-place-types
+use Rattle.record.proofs.item_place.Reads as item-place-contract
+use Rattle.record.proofs.item_refusal.Kinds as item-refusal-types
+use Rattle.record.proofs.item_refusal.Reads as item-refusal-contract
+use Rattle.record.proofs.item_part.Kinds as item-part-types
+use Rattle.record.proofs.item_part.Reads as item-part-contract
+use Rattle.record.proofs.put_item.Kinds as put-item-types
+use Rattle.record.proofs.put_item.Reads as put-item-contract
+use Rattle.record.proofs.store_item.Kinds as store-item-types
+use Rattle.record.proofs.store_item.Reads as store-item-contract
+use Rattle.view.proofs.read_record.Kinds as read-record-types
+use Rattle.view.proofs.read_record.Reads as read-record-contract
+use Rattle.packet.proofs.repair.Kinds as packet-repair-types
+use Rattle.packet.proofs.repair.Reads as packet-repair-contract
+use Rattle.packet.proofs.write_packet.Kinds as write-packet-types
+use Rattle.packet.proofs.write_packet.Reads as write-packet-contract
+use Rattle.packet.proofs.read_packet.Kinds as read-packet-types
+use Rattle.packet.proofs.read_packet.Reads as read-packet-contract
+use Rattle.packet.proofs.read_packet_into.Kinds as read-packet-into-types
+use Rattle.packet.proofs.read_packet_into.Reads as read-packet-into-contract
+
+-- ---- refusal
+
+pub number : OneAnswer 0 number-types.ps number-types.r number-contract.Learnt
+number κs i a b s t p q = p ∙ sym q
+
+pub plain : OneAnswer 0 plain-types.ps plain-types.r plain-contract.Learnt
+plain κs i a b s t p q = p ∙ sym q
+
+pub at : OneAnswer 0 at-types.ps at-types.r at-contract.Learnt
+at κs i a b s t p q = p ∙ sym q
+
+-- ---- anc
+
+pub word-of : OneAnswer 0 word-of-types.ps word-of-types.r word-of-contract.Learnt
+word-of κs i a b s t p q = p ∙ sym q
+
+pub is-sound : OneAnswer 0 is-sound-types.ps is-sound-types.r is-sound-contract.Learnt
+is-sound κs i a b s t p q = p ∙ sym q
+
+pub checksum : OneAnswer 1 checksum-types.ps checksum-types.r checksum-contract.Learnt
+checksum κs i a b s t p q = p ∙ sym q
+
+-- ---- gf256
+
+pub powers : OneAnswer 0 powers-types.ps powers-types.r powers-contract.Learnt
+powers κs i a b s t p q = powers-unique a b p q
+
+pub logs : OneAnswer 0 logs-types.ps logs-types.r logs-contract.Learnt
+logs κs i a b s t p q = logs-unique a b p q
+
+pub wheel : OneAnswer 0 wheel-types.ps wheel-types.r wheel-contract.Learnt
+wheel κs i a b s t p q = wheel-unique a b p q
+
+pub log-in : OneAnswer 1 log-in-types.ps log-in-types.r log-in-contract.Learnt
+log-in κs i a b s t p q = p .0 ∙ sym (q .0)
+
+pub product-in : OneAnswer 2 product-in-types.ps product-in-types.r product-in-contract.Learnt
+product-in κs i a b s t p q = p ∙ sym q
+
+pub quotient-in : OneAnswer 2 quotient-in-types.ps quotient-in-types.r quotient-in-contract.Learnt
+quotient-in κs i a b s t p q = p ∙ sym q
+
+pub sum : OneAnswer 0 sum-types.ps sum-types.r sum-contract.Learnt
+sum κs i a b s t p q = p ∙ sym q
+
+pub product : OneAnswer 0 product-types.ps product-types.r product-contract.Learnt
+product κs i a b s t p q = p ∙ sym q
+
+pub quotient : OneAnswer 0 quotient-types.ps quotient-types.r quotient-contract.Learnt
+quotient κs i a b s t p q = p ∙ sym q
+
+-- ---- rs
+
+pub divisor : OneAnswer 0 divisor-types.ps divisor-types.r divisor-contract.Learnt
+divisor κs i a b s t p q = p ∙ sym q
+
+pub parity : OneAnswer 1 parity-types.ps parity-types.r parity-contract.Learnt
+parity κs i a b s t p q = p ∙ sym q
+
+pub remainder : OneAnswer 1 remainder-types.ps remainder-types.r remainder-contract.Learnt
+remainder κs i a b s t p q = p ∙ sym q
+
+-- ---- search
+
+pub search-repair : OneOutcome 1 search-repair-types.ps search-repair-types.r (λ κs s. now (s .0)) search-repair-contract.Learnt
+search-repair κs i a b s t p q = (p .0 ∙ sym (q .0), p .1 ∙ sym (q .1))
+
+-- ---- record
+
+pub record-refusal : OneAnswer 1 record-refusal-types.ps record-refusal-types.r record-refusal-contract.Learnt
+record-refusal κs i a b s t p q = p ∙ sym q
+
+pub write-record : OneOutcome 2 write-record-types.ps write-record-types.r (λ κs s. now (s .1 .0)) write-record-contract.Learnt
+write-record κs i a b s t p q = (p .0 ∙ sym (q .0), p .1 ∙ sym (q .1))
+
+pub private-part : OnePart 1 private-part-types.ps private-part-types.r (λ κs a. now a) private-part-contract.Learnt
+private-part κs i a b s t p q = p ∙ sym q
+
+pub item-place : OneAnswer 0 item-place-types.ps item-place-types.r item-place-contract.Learnt
+item-place κs i a b s t p q = p ∙ sym q
+
+pub item-refusal : OneAnswer 1 item-refusal-types.ps item-refusal-types.r item-refusal-contract.Learnt
+item-refusal κs i a b s t p q = p ∙ sym q
+
+pub item-part : OnePart 1 item-part-types.ps item-part-types.r (λ κs a. now a) item-part-contract.Learnt
+item-part κs i a b s t p q = p ∙ sym q
+
+pub put-item : OneOutcome 2 put-item-types.ps put-item-types.r (λ κs s. now (s .1 .1 .0)) put-item-contract.Learnt
+put-item κs i a b s t p q = (p .0 ∙ sym (q .0), p .1 ∙ sym (q .1))
+
+pub store-item : OneOutcome 2 store-item-types.ps store-item-types.r (λ κs s. now (s .1 .1 .0)) store-item-contract.Learnt
+store-item κs i a b s t p q = (p .0 ∙ sym (q .0), p .1 ∙ sym (q .1))
+
+-- ---- view
+
+pub read-record : OneAnswer 1 read-record-types.ps read-record-types.r read-record-contract.Learnt
+read-record κs i a b s t p q = p ∙ sym q
+
+-- ---- packet
+
+pub packet-repair : OneOutcome 2 packet-repair-types.ps packet-repair-types.r (λ κs s. now (s .1 .0)) packet-repair-contract.Learnt
+packet-repair κs i a b s t p q = (p .0 ∙ sym (q .0), p .1 ∙ sym (q .1))
+
+pub write-packet : OneOutcome 2 write-packet-types.ps write-packet-types.r (λ κs s. now (s .1 .1 .1 .0)) write-packet-contract.Learnt
+write-packet κs i a b s t p q = (p .0 ∙ sym (q .0), p .1 ∙ sym (q .1))
+
+pub read-packet : OneAnswer 1 read-packet-types.ps read-packet-types.r read-packet-contract.Learnt
+read-packet κs i a b s t p q = p ∙ sym q
+
+pub read-packet-into : OneOutcome 2 read-packet-into-types.ps read-packet-into-types.r (λ κs s. now (s .1 .0)) read-packet-into-contract.Learnt
+read-packet-into κs i a b s t p q = (p .0 ∙ sym (q .0), p .1 ∙ sym (q .1))

@@ -1,0 +1,35 @@
+-- What reading a record answers, by whether the check passed.
+-- Assumes nothing.
+use mathlib.Core.Path.{_≡_, sym, ap, _∙_}
+use mathlib.Core.List.{List}
+use mathlib.Core.Option.{Option, none, some}
+use Prim.Native.Nat.{ℕ}
+use borrow.Author.Tests.{eqb-true}
+use lib.ListN.{length, replicate}
+use Rattle.refusal.proofs.Laws.Chain.{require-passed}
+use Rattle.refusal.specs.declared.Refusal.{Refusal}
+use Rattle.record.specs.Items.{recordRefusal}
+use Rattle.record.specs.Checked.{checkedOf}
+use Rattle.view.specs.View.{viewOf}
+use Rattle.view.specs.Read.{viewBy, recordReadOf}
+use Rattle.record.specs.declared.Checked.{Checked}
+use Rattle.record.specs.declared.Checked.the-variants.{Passed, Refused}
+use Rattle.view.specs.declared.RecordView.{RecordView}
+use Rattle.record.proofs.Laws.Checks.{told}
+
+module _ (bytes : List ℕ) (a : Checked) (e : a ≡ checkedOf (recordRefusal bytes)) where
+  pub passed-long : a ≡ Passed → length bytes ≡ 248
+  unfolding recordRefusal
+  passed-long d = eqb-true _ _ (require-passed _ _ _ (told (recordRefusal bytes) a Passed e d) .0)
+
+  pub read-passed : (v : RecordView) → a ≡ Passed → v ≡ viewOf bytes → record { checked = a; view = v } ≡ recordReadOf bytes
+  unfolding recordReadOf
+  read-passed v d f =
+      let n : recordRefusal bytes ≡ none = told (recordRefusal bytes) a Passed e d in
+      λ i. record { checked = e i; view = (f ∙ sym (ap (λ o. viewBy o bytes) n)) i }
+
+  pub read-refused : (no′ : Refusal) (v : RecordView) → a ≡ Refused no′ → v ≡ viewOf (replicate 248 0) → record { checked = a; view = v } ≡ recordReadOf bytes
+  unfolding recordReadOf
+  read-refused no′ v d f =
+      let n : recordRefusal bytes ≡ some no′ = told (recordRefusal bytes) a (Refused no′) e d in
+      λ i. record { checked = e i; view = (f ∙ sym (ap (λ o. viewBy o bytes) n)) i }
