@@ -10,11 +10,8 @@ use Rattle.rs.specs.Codeword.{parityOf}
 use Rattle.record.specs.Rules.{soundByte, pictureRule, timeByte}
 use Rattle.packet.specs.Protected.{soundWords}
 use Rattle.packet.specs.Layout.{packetWords}
-
--- what a desk opens with: eight 0x20; 0xFF in items 2, 5, 8, 10 and 11; zero elsewhere
-unfoldable pub opening : List ℕ
-opening =
-    replicate 8 0x20 ++ replicate 9 0xFF ++ replicate 8 0 ++ (0xFF ∷ 0 ∷ 0 ∷ 0xFF ∷ 0 ∷ 0 ∷ 0 ∷ 0 ∷ []) ++ replicate 8 0xFF ++ replicate 207 0
+use Rattle.desk.specs.Desk.{opening}
+use Rattle.follower.specs.Follower.{stepOf, kindOf, missedOf}
 
 -- the checksum word of a packet
 abbrev pub sumWord : List ℕ → ℕ
@@ -27,6 +24,10 @@ picture w0 = pictureRule (w0 ∷ 0 ∷ 0 ∷ 0 ∷ [])
 -- a second by its byte
 abbrev pub second : ℕ → Bool
 second b = timeByte 0 59 b
+
+-- how many packets a follower misses from one index to another
+abbrev pub missedFrom : ℕ → ℕ → ℕ
+missedFrom last new = missedOf (kindOf true (stepOf last new) false) (stepOf last new)
 
 pub record Values : Type 0 where
   pub byte-85 : wordOf 0x85 ≡ 0x185
@@ -47,3 +48,5 @@ pub record Values : Type 0 where
   pub second-59 : second 0x59 ≡ true
   pub second-5A : second 0x5A ≡ false
   pub second-60 : second 0x60 ≡ false
+  pub index-15-then-0 : missedFrom 15 0 ≡ 0
+  pub index-3-then-2 : missedFrom 3 2 ≡ 14

@@ -6,6 +6,7 @@ use mathlib.Core.Option.{Option, none, some, Option·getD}
 use Prim.Native.Nat.{ℕ, zero, suc, _+_}
 use lib.Dec.{eqb, ltb}
 use lib.ListN.{length, take, drop}
+use Rattle.basics.specs.Each.{all, same}
 use Rattle.rs.specs.Codeword.{parityOf}
 
 -- in how many places two lists of one length differ
@@ -14,21 +15,13 @@ changes [] m = 0
 changes (a ∷ l) [] = 0
 changes (a ∷ l) (b ∷ m) = cond (eqb a b) 0 1 + changes l m
 
--- two lists are equal, entry by entry
-unfoldable pub same : List ℕ → List ℕ → Bool
-same [] [] = true
-same [] (b ∷ m) = false
-same (a ∷ l) [] = false
-same (a ∷ l) (b ∷ m) = eqb a b && same l m
-
--- each entry is a byte, as a test
-unfoldable pub allBytes : List ℕ → Bool
-allBytes [] = true
-allBytes (b ∷ l) = ltb b 256 && allBytes l
+-- is the number a byte?
+abbrev pub isByte : ℕ → Bool
+isByte b = ltb b 256
 
 -- is the list a codeword?
 unfoldable pub isCodeword : List ℕ → Bool
-isCodeword w = eqb (length w) 254 && allBytes w && same (drop 248 w) (parityOf (take 248 w))
+isCodeword w = eqb (length w) 254 && all isByte w && same (drop 248 w) (parityOf (take 248 w))
 
 -- each list that has a value below n in front of one of ls
 unfoldable pub fronted : ℕ → List (List ℕ) → List (List ℕ)

@@ -6,7 +6,8 @@ ghost use mathlib.Core.Path.{_≡_};
 ghost use Prim.Native.Nat.{_<_};
 ghost use lib.ListN.{length};
 ghost use Rattle.rs.specs.Polynomial.{zeros};
-ghost use Rattle.rs.specs.Decode.{same, repairable, repaired};
+ghost use Rattle.basics.specs.Each.{same};
+ghost use Rattle.rs.specs.Decode.{repairable, repaired};
 ghost use Rattle.search.specs.Search.{patched, Damaged};
 
 // Repairs 254 delivered bytes in place: true, and they are the codeword that differs from what was delivered in at most three bytes;

@@ -11,7 +11,7 @@ use Rattle.rs.proofs.Laws.Polynomial.{bytes-at}
 use Rattle.record.specs.Items.{items, broken, recordOf, recordRefusal}
 use Rattle.record.proofs.Laws.Record.{record-length as length-of-record, record-refusal, record-bytes as each-byte}
 
-bytes-getD : (l : List ℕ) → Bytes l → (i : ℕ) → getD l i 0 < 256
+pub bytes-getD : (l : List ℕ) → Bytes l → (i : ℕ) → getD l i 0 < 256
 bytes-getD [] b i = lit< tt
 bytes-getD (d ∷ l) b zero = b .0
 bytes-getD (d ∷ l) b (suc i) = bytes-getD l (b .1) i

@@ -75,7 +75,7 @@ module _ (ci : ℕ) (r q : List ℕ) (hc : ci ≤ 15) (nr : length r ≡ 248) (b
 
 -- ---- as it was written
 
-protected-narrow : (on : Bool) (r : List ℕ) → Bytes r → narrow (protectedWords on r) ≡ true
+pub protected-narrow : (on : Bool) (r : List ℕ) → Bytes r → narrow (protectedWords on r) ≡ true
 unfolding protectedWords
 protected-narrow true r b = narrow-append _ _ (words-narrow r b) (words-narrow (parityOf r) (parity-bytes r))
 protected-narrow false r b = narrow-append _ _ (words-narrow r b) (unfold narrow all in refl)

@@ -70,6 +70,18 @@ use Rattle.packet.proofs.read_packet.Kinds as read-packet-types
 use Rattle.packet.proofs.read_packet.Reads as read-packet-contract
 use Rattle.packet.proofs.read_packet_into.Kinds as read-packet-into-types
 use Rattle.packet.proofs.read_packet_into.Reads as read-packet-into-contract
+use Rattle.desk.proofs.Desk.open.Kinds as desk-open-types
+use Rattle.desk.proofs.Desk.open.Reads as desk-open-contract
+use Rattle.desk.proofs.Desk.edit.Kinds as desk-edit-types
+use Rattle.desk.proofs.Desk.edit.Reads as desk-edit-contract
+use Rattle.desk.proofs.Desk.undo.Kinds as desk-undo-types
+use Rattle.desk.proofs.Desk.undo.Reads as desk-undo-contract
+use Rattle.desk.proofs.Desk.send.Kinds as desk-send-types
+use Rattle.desk.proofs.Desk.send.Reads as desk-send-contract
+use Rattle.follower.proofs.Follower.open.Kinds as follower-open-types
+use Rattle.follower.proofs.Follower.open.Reads as follower-open-contract
+use Rattle.follower.proofs.Follower.follow.Kinds as follower-follow-types
+use Rattle.follower.proofs.Follower.follow.Reads as follower-follow-contract
 
 -- ---- refusal
 
@@ -182,3 +194,25 @@ read-packet κs i a b s t p q = p ∙ sym q
 
 pub read-packet-into : OneOutcome 2 read-packet-into-types.ps read-packet-into-types.r (λ κs s. now (s .1 .0)) read-packet-into-contract.Learnt
 read-packet-into κs i a b s t p q = (p .0 ∙ sym (q .0), p .1 ∙ sym (q .1))
+
+-- ---- desk
+
+pub desk-open : OneAnswer 0 desk-open-types.ps desk-open-types.r desk-open-contract.Learnt
+desk-open κs i a b s t p q = p ∙ sym q
+
+pub desk-edit : OneAnswer 1 desk-edit-types.ps desk-edit-types.r desk-edit-contract.Learnt
+desk-edit κs i a b s t p q = p ∙ sym q
+
+pub desk-undo : OneAnswer 0 desk-undo-types.ps desk-undo-types.r desk-undo-contract.Learnt
+desk-undo κs i a b s t p q = p ∙ sym q
+
+pub desk-send : OneOutcome 1 desk-send-types.ps desk-send-types.r (λ κs s. now (s .1 .0)) desk-send-contract.Learnt
+desk-send κs i a b s t p q = (p .0 ∙ sym (q .0), p .1 ∙ sym (q .1))
+
+-- ---- follower
+
+pub follower-open : OneAnswer 0 follower-open-types.ps follower-open-types.r follower-open-contract.Learnt
+follower-open κs i a b s t p q = p ∙ sym q
+
+pub follower-follow : OneAnswer 1 follower-follow-types.ps follower-follow-types.r follower-follow-contract.Learnt
+follower-follow κs i a b s t p q = p ∙ sym q

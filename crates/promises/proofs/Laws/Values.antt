@@ -8,10 +8,14 @@ use Rattle.rs.specs.Codeword.{parityOf, remainder, next, divisorBytes}
 use Rattle.record.specs.Rules.{soundByte, oneOf, pictureRule, lowHalf, timeByte, decimal}
 use Rattle.packet.specs.Protected.{soundWords}
 use Rattle.packet.specs.Layout.{packetWords, summedWords, kind, flag, headerWord, protectedWords}
-use Rattle.promises.specs.Values.{Values, opening}
+use Rattle.record.specs.Items.{items}
+use Rattle.record.specs.Item.{rowOf, put, putIn, putItem}
+use Rattle.desk.specs.Desk.{opening}
+use Rattle.follower.specs.Follower.{stepOf, kindOf}
+use Rattle.promises.specs.Values.{Values}
 
 pub values : Values
-unfolding opening packetWords summedWords kind flag headerWord protectedWords soundWords wordOf withB9 bit ones evenParity total checksumOf parityOf remainder next divisorBytes _⊞_ scale _⊗_ byBits double _⊕_ soundByte oneOf pictureRule lowHalf timeByte decimal
+unfolding opening items rowOf put putIn putItem stepOf kindOf packetWords summedWords kind flag headerWord protectedWords soundWords wordOf withB9 bit ones evenParity total checksumOf parityOf remainder next divisorBytes _⊞_ scale _⊗_ byBits double _⊕_ soundByte oneOf pictureRule lowHalf timeByte decimal
 values = record {
   byte-85 = refl;
   byte-0F = refl;
@@ -31,4 +35,6 @@ values = record {
   second-59 = refl;
   second-5A = refl;
   second-60 = refl;
+  index-15-then-0 = refl;
+  index-3-then-2 = refl;
 }

@@ -7,12 +7,14 @@ use mathlib.Core.Option.{Option, none, some}
 use Prim.Native.Nat.{ℕ}
 use native.Mathlib.Omega.{arith}
 use lib.ListN.{length, getD, take, drop}
-use borrow.Author.Tests.{not-true, not-false}
+use borrow.Author.Tests.{not-true, not-false, eqb-true}
+use Rattle.refusal.proofs.Laws.Chain.{require-passed}
 use Rattle.refusal.specs.Chain.{require, passed}
 use Rattle.refusal.specs.Number.{refusalAt}
 use Rattle.refusal.specs.declared.Reason.the-variants.{Station, Time, Picture, Sound}
 use Rattle.refusal.specs.declared.Refusal.{Refusal}
 use Rattle.record.specs.declared.Checked.{Checked}
+use Rattle.record.specs.declared.Checked.the-variants.{Passed}
 use Rattle.record.specs.Checked.{checkedOf, refusalIn}
 use Rattle.record.specs.Rules.{stationRule, timeRule, pictureRule, soundByte, soundRule}
 use Rattle.record.specs.Items.{items, part, broken, recordRefusal}
@@ -27,6 +29,11 @@ refusal-in (some no′) = refl
 -- the refusal of an answer that turned out to be b
 pub told : (o : Option Refusal) (a b : Checked) → a ≡ checkedOf o → a ≡ b → o ≡ refusalIn b
 told o a b e d = sym (refusal-in o) ∙ ap refusalIn (sym e ∙ d)
+
+-- bytes that pass the check are 248
+pub passed-long : (bytes : List ℕ) (a : Checked) → a ≡ checkedOf (recordRefusal bytes) → a ≡ Passed → length bytes ≡ 248
+unfolding recordRefusal
+passed-long bytes a e d = eqb-true _ _ (require-passed _ _ _ (told (recordRefusal bytes) a Passed e d) .0)
 
 -- ---- a test that a call answered
 

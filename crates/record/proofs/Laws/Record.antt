@@ -158,21 +158,21 @@ module _ (bytes : List ℕ) (h : length bytes ≡ 248) where
 abbrev pub Bytes : List ℕ → Type 0
 Bytes l = (i : ℕ) → getD l i 0 < 256
 
-append-bytes : (x y : List ℕ) → Bytes x → Bytes y → Bytes (x ++ y)
+pub append-bytes : (x y : List ℕ) → Bytes x → Bytes y → Bytes (x ++ y)
 append-bytes [] y f g i = g i
 append-bytes (a ∷ x) y f g zero = f 0
 append-bytes (a ∷ x) y f g (suc i) = append-bytes x y (λ j. f (suc j)) g i
 
-take-bytes : (n : ℕ) (l : List ℕ) → Bytes l → Bytes (take n l)
+pub take-bytes : (n : ℕ) (l : List ℕ) → Bytes l → Bytes (take n l)
 take-bytes zero l f i = omega arith
 take-bytes (suc n) [] f i = omega arith
 take-bytes (suc n) (a ∷ l) f zero = f 0
 take-bytes (suc n) (a ∷ l) f (suc i) = take-bytes n l (λ j. f (suc j)) i
 
-drop-bytes : (n : ℕ) (l : List ℕ) → Bytes l → Bytes (drop n l)
+pub drop-bytes : (n : ℕ) (l : List ℕ) → Bytes l → Bytes (drop n l)
 drop-bytes n l f i = rw (getD-drop n l i 0) (f (n + i))
 
-zero-bytes : (n : ℕ) → Bytes (replicate n 0)
+pub zero-bytes : (n : ℕ) → Bytes (replicate n 0)
 zero-bytes zero i = omega arith
 zero-bytes (suc n) zero = omega arith
 zero-bytes (suc n) (suc i) = zero-bytes n i

@@ -5,7 +5,7 @@ use mathlib.Core.Path.{_≡_, refl, sym, ap, _∙_, subst}
 use mathlib.Core.Bool.{Bool, true, false, cond, _&&_, _||_, false≢true}
 use mathlib.Core.List.{List, [], _∷_, _++_, append-assoc}
 use mathlib.Core.Option.{Option, none, some, Option·some-ne-none, Option·some-injective}
-use Prim.Native.Nat.{ℕ, _+_, _-_, _≤_, _<_}
+use Prim.Native.Nat.{ℕ, _+_, _-_, _≤_}
 use native.Mathlib.Omega.{arith}
 use lib.Dec.{T, eqb, leb, leb→le}
 use lib.ListN.{length, take, drop, replicate, length-drop, take-append-drop}
@@ -28,8 +28,8 @@ use Rattle.record.specs.Checked.{checkedOf}
 use Rattle.record.specs.declared.Checked.{Checked}
 use Rattle.record.specs.declared.Checked.the-variants.{Passed, Refused}
 use Rattle.record.proofs.Laws.Put.{put-length, put-before, put-there, put-behind, put-back, before, behind}
-use Rattle.record.proofs.Laws.Clean.{clean-length, clean-again, clean-rule}
-use Rattle.record.proofs.Laws.Record.{runs, record-runs, record-current, record-next, record-reserved}
+use Rattle.record.proofs.Laws.Clean.{clean-length, clean-bytes, clean-again, clean-rule}
+use Rattle.record.proofs.Laws.Record.{Bytes, append-bytes, take-bytes, drop-bytes, runs, record-runs, record-current, record-next, record-reserved}
 use Rattle.record.proofs.Laws.Checks.{told}
 
 -- ---- what is so of each row of a table
@@ -314,7 +314,7 @@ clean-put r new n i e s l good settled c =
 -- ---- the same by an item's number
 
 -- what is so where there is no such item, and of a row of the table, is so at each number
-by-row : (n : ℕ) (P : Option Row → Type 0) → P none → ((i : Row) → rowOf n items ≡ some i → Sits i → P (some i)) → P (rowOf n items)
+pub by-row : (n : ℕ) (P : Option Row → Type 0) → P none → ((i : Row) → rowOf n items ≡ some i → Sits i → P (some i)) → P (rowOf n items)
 by-row n P p f = go (rowOf n items) refl
   where
     go : (o : Option Row) → rowOf n items ≡ o → P o
@@ -459,6 +459,29 @@ unfolding itemRefusal refusedIn itemFits fitsIn cleanOf cleanIn
 clean-fits n bytes old h =
     by-row n (λ o. refusedIn bytes o ≡ none → fitsIn (cleanIn bytes o) old o ≡ true) (λ a. absurd (Option·some-ne-none _ a))
     (λ i e s a. rw (s .long bytes (accepted-row bytes i a .0), h) (ap (λ (t : Bool). t && true) (eq-eqb (i .long) (i .long) refl)))
+
+-- as many bytes as the item has are put into its place
+pub leaves-put : (n : ℕ) (new old : List ℕ) → length new ≡ placeOf n .length → length old ≡ 248 → putLeaves n new old ≡ putItem n new old
+unfolding placeOf placeIn putLeaves itemFits fitsIn putItem putIn
+leaves-put n new old l h =
+    by-row n (λ o. length new ≡ placeIn o .length → cond (fitsIn new old o) (putIn new old o) old ≡ putIn new old o) (λ z. refl)
+    (λ i e s z. simp (eq-eqb (length new) (i .long) z, h)) l
+
+-- bytes stored among bytes
+mode-bytes : (i : Row) (t : Bool) → Sits i → isMode (i .number) ≡ t → (b : List ℕ) → Bytes b → Bytes (i .clean b)
+mode-bytes i true s m b f k = rw (s .mode m .1 b) (clean-bytes b (f 0) k)
+mode-bytes i false s m b f k = rw (s .plain m b) (f k)
+
+put-bytes : (old new : List ℕ) (at : ℕ) → Bytes old → Bytes new → Bytes (put old at new)
+unfolding put
+put-bytes old new at f g k =
+    append-bytes (take at old ++ new) (drop (at + length new) old) (append-bytes (take at old) new (take-bytes at old f) g) (drop-bytes (at + length new) old f) k
+
+pub store-bytes : (n : ℕ) (bytes r : List ℕ) → Bytes bytes → Bytes r → Bytes (putItem n (cleanOf n bytes) r)
+unfolding putItem putIn cleanOf cleanIn
+store-bytes n bytes r f g =
+    by-row n (λ o. Bytes (putIn (cleanIn bytes o) r o)) g
+    (λ i e s. put-bytes r (i .clean bytes) (start i) g (mode-bytes i (isMode (i .number)) s refl bytes f))
 
 -- checked bytes, by what the check of the item said
 module _ (n : ℕ) (bytes old : List ℕ) (said : Checked) (e : said ≡ checkedOf (itemRefusal n bytes)) where

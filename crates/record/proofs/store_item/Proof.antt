@@ -1,7 +1,7 @@
 -- `record::store_item` meets its contract: each return is one case of the chain of refusals, and what is put in the item's place is what its
 -- bytes are stored as.
 -- Assumes nothing.
-use mathlib.Core.Path.{refl, sym, ap, _∙_}
+use mathlib.Core.Path.{sym, ap, _∙_}
 use Rattle.record.specs.declared.Checked.the-variants.{Refused}
 use Rattle.record.proofs.Laws.Stored.{mode-stored, plain-stored, store-refused, accepted, store-room, store-done}
 use borrow.Author.Needs.{needs}

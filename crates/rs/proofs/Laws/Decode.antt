@@ -9,71 +9,41 @@ use mathlib.Core.Option.{Option, none, some, Option·getD}
 use Prim.Native.Nat.{ℕ, zero, suc, _+_, _≤_, _<_}
 use native.Mathlib.Nat.{suc-inj}
 use native.Mathlib.Omega.{arith}
-use lib.Dec.{T, eqb, ltb, eqb→eq, eqb-refl, ltb→lt, lt→ltb}
+use lib.Dec.{eqb}
+use borrow.Author.Tests.{eq-eqb, eqb-true, lt-ltb, ltb-true}
 use lib.ListN.{length, take, drop}
-use Rattle.basics.proofs.Laws.Test.{both-left, both-right, never, lt-or-le}
+use Rattle.basics.specs.Each.{all, same}
+use Rattle.basics.proofs.Laws.Test.{both-true, never, lt-or-le}
+use Rattle.basics.proofs.Laws.Each.{same-equal, same-self}
 use Rattle.rs.specs.Codeword.{Bytes, Codeword, parityOf}
-use Rattle.rs.specs.Decode.{changes, same, allBytes, isCodeword, fronted, near, firstCodeword, given, decode, repairable, repaired}
+use Rattle.rs.specs.Decode.{changes, isByte, isCodeword, fronted, near, firstCodeword, given, decode, repairable, repaired}
 use Rattle.rs.proofs.Laws.Distance.{place, differ-le, differ-same, changes-zero, changes-self, changes-le-length}
 use Rattle.rs.proofs.Laws.Codeword.{codeword-unique}
 
 -- ---- the test
 
-both : (a b : Bool) → T a → T b → T (a && b)
-both true b p q = q
-both false b p q = p
-
-all-bytes : (l : List ℕ) → T (allBytes l) → Bytes l
-unfolding allBytes
+all-bytes : (l : List ℕ) → all isByte l ≡ true → Bytes l
+unfolding all
 all-bytes [] t = tt
-all-bytes (a ∷ l) t = (ltb→lt a 256 (both-left (ltb a 256) (allBytes l) t), all-bytes l (both-right (ltb a 256) (allBytes l) t))
+all-bytes (a ∷ l) t = let both = both-true (isByte a) (all isByte l) t in (ltb-true a 256 (both .0), all-bytes l (both .1))
 
-bytes-all : (l : List ℕ) → Bytes l → T (allBytes l)
-unfolding allBytes
-bytes-all [] b = tt
-bytes-all (a ∷ l) b = both (ltb a 256) (allBytes l) (lt→ltb a 256 (b .0)) (bytes-all l (b .1))
-
-pub same-equal : (l m : List ℕ) → T (same l m) → l ≡ m
-unfolding same
-same-equal [] [] t = refl
-same-equal [] (b ∷ m) t = absurd t
-same-equal (a ∷ l) [] t = absurd t
-same-equal (a ∷ l) (b ∷ m) t =
-    ap₂ (λ (x : ℕ) (y : List ℕ). x ∷ y) (eqb→eq a b (both-left (eqb a b) (same l m) t)) (same-equal l m (both-right (eqb a b) (same l m) t))
-
-pub same-self : (l : List ℕ) → T (same l l)
-unfolding same
-same-self [] = tt
-same-self (a ∷ l) = both (eqb a a) (same l l) (eqb-refl a) (same-self l)
-
-pub is-codeword : (w : List ℕ) → T (isCodeword w) → Codeword w
-unfolding isCodeword
-is-codeword w t =
-    let p : Bool = eqb (length w) 254 in
-    let q : Bool = same (drop 248 w) (parityOf (take 248 w)) in
-    let pb : T (p && allBytes w) = both-left (p && allBytes w) q t in
-    record {
-      long = eqb→eq (length w) 254 (both-left p (allBytes w) pb);
-      bytes = all-bytes w (both-right p (allBytes w) pb);
-      parity = same-equal _ _ (both-right (p && allBytes w) q t);
-    }
-
-pub codeword-is : (w : List ℕ) → Codeword w → T (isCodeword w)
-unfolding isCodeword
-codeword-is w c =
-    both (eqb (length w) 254 && allBytes w) (same (drop 248 w) (parityOf (take 248 w)))
-    (both (eqb (length w) 254) (allBytes w) (subst (λ (n : ℕ). T (eqb n 254)) (sym (c .long)) tt) (bytes-all w (c .bytes)))
-    (subst (λ (l : List ℕ). T (same (drop 248 w) l)) (c .parity) (same-self (drop 248 w)))
-
-pub codeword-true : (w : List ℕ) → Codeword w → isCodeword w ≡ true
-codeword-true w c = go (isCodeword w) (codeword-is w c)
-  where
-    go : (t : Bool) → T t → t ≡ true
-    go true p = refl
-    go false p = absurd p
+bytes-all : (l : List ℕ) → Bytes l → all isByte l ≡ true
+unfolding all
+bytes-all [] b = refl
+bytes-all (a ∷ l) b = ap₂ _&&_ (lt-ltb a 256 (b .0)) (bytes-all l (b .1))
 
 pub true-codeword : (w : List ℕ) → isCodeword w ≡ true → Codeword w
-true-codeword w e = is-codeword w (rw e tt)
+unfolding isCodeword
+true-codeword w t =
+    let parts = both-true (eqb (length w) 254 && all isByte w) _ t in
+    let front = both-true (eqb (length w) 254) (all isByte w) (parts .0) in
+    record { long = eqb-true (length w) 254 (front .0); bytes = all-bytes w (front .1); parity = same-equal _ _ (parts .1) }
+
+pub codeword-true : (w : List ℕ) → Codeword w → isCodeword w ≡ true
+unfolding isCodeword
+codeword-true w c =
+    ap₂ _&&_ (ap₂ _&&_ (eq-eqb (length w) 254 (c .long)) (bytes-all w (c .bytes)))
+    (ap (same (drop 248 w)) (sym (c .parity)) ∙ same-self (drop 248 w))
 
 -- ---- the lists near a list
 
@@ -143,22 +113,22 @@ close-near (suc k) (a ∷ l) (x ∷ m) b c =
 first-is : (ws : List (List ℕ)) (c : List ℕ) → firstCodeword ws ≡ some c → Codeword c × List·Memᴰ c ws
 unfolding firstCodeword
 first-is [] c e = absurd (let z : _≡_ {A = ℕ} 0 1 = cc in omega arith)
-first-is (w ∷ ws) c e = go (isCodeword w) (is-codeword w) e (first-is ws c)
+first-is (w ∷ ws) c e = go (isCodeword w) (true-codeword w) e (first-is ws c)
   where
-    go : (t : Bool) → (T t → Codeword w) → cond t (some w) (firstCodeword ws) ≡ some c → (firstCodeword ws ≡ some c → Codeword c × List·Memᴰ c ws)
+    go : (t : Bool) → (t ≡ true → Codeword w) → cond t (some w) (firstCodeword ws) ≡ some c → (firstCodeword ws ≡ some c → Codeword c × List·Memᴰ c ws)
         → Codeword c × List·Memᴰ c (w ∷ ws)
-    go true W q f = let p : c ≡ w = cc in (subst Codeword (sym p) (W tt), List·Memᴰ·head p)
+    go true W q f = let p : c ≡ w = cc in (subst Codeword (sym p) (W refl), List·Memᴰ·head p)
     go false W q f = (f q .0, List·Memᴰ·tail (f q .1))
 
 first-found : (ws : List (List ℕ)) (c : List ℕ) → Codeword c → List·Memᴰ c ws → (w : List ℕ) × (firstCodeword ws ≡ some w)
 unfolding firstCodeword
 first-found [] c C h = absurd (List·Memᴰ·not-nil h)
-first-found (w ∷ ws) c C h = go (isCodeword w) (λ e. codeword-is w (subst Codeword e C)) (first-found ws c C) (List·Memᴰ·cases-cons h)
+first-found (w ∷ ws) c C h = go (isCodeword w) (λ e. codeword-true w (subst Codeword e C)) (first-found ws c C) (List·Memᴰ·cases-cons h)
   where
-    go : (t : Bool) → (c ≡ w → T t) → (List·Memᴰ c ws → (x : List ℕ) × (firstCodeword ws ≡ some x)) → (c ≡ w) ⊎ List·Memᴰ c ws
+    go : (t : Bool) → (c ≡ w → t ≡ true) → (List·Memᴰ c ws → (x : List ℕ) × (firstCodeword ws ≡ some x)) → (c ≡ w) ⊎ List·Memᴰ c ws
         → (x : List ℕ) × (cond t (some w) (firstCodeword ws) ≡ some x)
     go true p f m = (w, refl)
-    go false p f (inl e) = absurd (p e)
+    go false p f (inl e) = never (sym (p e))
     go false p f (inr m) = f m
 
 -- ---- decode

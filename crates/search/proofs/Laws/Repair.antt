@@ -7,7 +7,7 @@ use mathlib.Core.List.{List, [], _∷_}
 use Prim.Native.Nat.{ℕ, zero, suc, _-_, _<_, _≤_}
 use native.Mathlib.Nat.{suc-sub-suc, le-of-suc-le-suc, not-suc-le-zero, zero-lt-suc}
 use native.Mathlib.Omega.{arith}
-use lib.Dec.{T, eqb}
+use lib.Dec.{eqb}
 use lib.ListN.{length, getD, set, length-set}
 use Rattle.gf256.specs.Field.{_⊕_, _⊗_, pow}
 use Rattle.gf256.specs.PowerSum.{Term, powerSum}
@@ -16,12 +16,15 @@ use Rattle.gf256.proofs.Laws.Product.{pow-swap}
 use Rattle.gf256.proofs.Laws.Ring.{ring}
 use Rattle.rs.specs.Polynomial.{valueAt, _⊞_, zeros}
 use Rattle.rs.specs.Codeword.{leftOf, Bytes, Codeword}
-use Rattle.rs.specs.Decode.{changes, same}
+use Rattle.basics.specs.Each.{same}
+use Rattle.basics.proofs.Laws.Test.{never}
+use Rattle.basics.proofs.Laws.Each.{same-equal, same-self}
+use Rattle.rs.specs.Decode.{changes}
 use Rattle.rs.proofs.Laws.Polynomial.{⊞-bytes, length-⊞, value-⊞}
 use Rattle.rs.proofs.Laws.Packed.{entries-all}
 use Rattle.rs.proofs.Laws.Distance.{terms, length-terms, terms-sum, changes-weight, changes-zero, changes-self, changes-set}
 use Rattle.rs.proofs.Laws.Codeword.{codeword-vanishes, vanishing-codeword, left-value, zero-codeword, codeword-zero}
-use Rattle.rs.proofs.Laws.Decode.{same-equal, same-self, Answer, some-answer, none-answer, codeword-answer, decode-complete, decode-none}
+use Rattle.rs.proofs.Laws.Decode.{Answer, some-answer, none-answer, codeword-answer, decode-complete, decode-none}
 use Rattle.search.specs.Search.{Explains, termsOf, Placed, Falling, Solved, sumsOf, patched, Damaged}
 use Rattle.search.specs.declared.solver.Errors.{Errors}
 use Rattle.search.specs.declared.solver.Outcome.{Outcome}
@@ -85,13 +88,13 @@ six-zero l n = simp and-assoc (simp and-true at (ap (λ (m : List ℕ). same m (
 
 module _ (l rest : List ℕ) (n : length l ≡ 254) (b : Bytes l) (e : rest ≡ leftOf l) where
   pub nothing-left : same rest (zeros 6) ≡ true → Answer l true l
-  nothing-left z = codeword-answer l (zero-codeword l n b (sym e ∙ same-equal rest (zeros 6) (rw z tt)))
+  nothing-left z = codeword-answer l (zero-codeword l n b (sym e ∙ same-equal rest (zeros 6) z))
 
   pub something-left : same rest (zeros 6) ≡ false → Damaged l rest
   something-left z = record {
     long = n;
     divided = e;
-    broken = λ C. subst T z (subst (λ (m : List ℕ). T (same rest m)) (e ∙ codeword-zero l C) (same-self rest));
+    broken = λ C. never (sym (ap (same rest) (sym (e ∙ codeword-zero l C)) ∙ same-self rest) ∙ z);
   }
 
 -- ---- a damaged block and its sums

@@ -4,9 +4,7 @@ use mathlib.Core.Path.{_≡_, sym, ap, _∙_}
 use mathlib.Core.List.{List}
 use mathlib.Core.Option.{Option, none, some}
 use Prim.Native.Nat.{ℕ}
-use borrow.Author.Tests.{eqb-true}
-use lib.ListN.{length, replicate}
-use Rattle.refusal.proofs.Laws.Chain.{require-passed}
+use lib.ListN.{replicate}
 use Rattle.refusal.specs.declared.Refusal.{Refusal}
 use Rattle.record.specs.Items.{recordRefusal}
 use Rattle.record.specs.Checked.{checkedOf}
@@ -18,10 +16,6 @@ use Rattle.view.specs.declared.RecordView.{RecordView}
 use Rattle.record.proofs.Laws.Checks.{told}
 
 module _ (bytes : List ℕ) (a : Checked) (e : a ≡ checkedOf (recordRefusal bytes)) where
-  pub passed-long : a ≡ Passed → length bytes ≡ 248
-  unfolding recordRefusal
-  passed-long d = eqb-true _ _ (require-passed _ _ _ (told (recordRefusal bytes) a Passed e d) .0)
-
   pub read-passed : (v : RecordView) → a ≡ Passed → v ≡ viewOf bytes → record { checked = a; view = v } ≡ recordReadOf bytes
   unfolding recordReadOf
   read-passed v d f =

@@ -1,7 +1,8 @@
 -- `view::read_record` meets its contract: the check says which view stands beside it.
 -- Assumes nothing.
 use borrow.Author.Needs.{needs}
-use Rattle.view.proofs.Laws.Read.{passed-long, read-passed, read-refused}
+use Rattle.record.proofs.Laws.Checks.{passed-long}
+use Rattle.view.proofs.Laws.Read.{read-passed, read-refused}
 use Rattle.view.proofs.read_record.Statement.{statement}
 use Rattle.view.proofs.read_record.Tie as tie
 

@@ -1,0 +1,120 @@
+-- What each call of a desk answers, by what the calls that it makes answered.
+-- Assumes nothing.
+use mathlib.Core.Path.{_≡_, refl, sym, ap, _∙_}
+use mathlib.Core.Bool.{Bool, true, false, cond}
+use mathlib.Core.List.{List}
+use mathlib.Core.Logic.{⊎-elim}
+use mathlib.Core.Option.{Option, none, some}
+use Prim.Native.Nat.{ℕ, _+_, _-_, _%_, _<_}
+use native.Mathlib.Nat.{mod-lt}
+use native.Mathlib.Omega.{arith}
+use lib.Dec.{ltb}
+use lib.ListN.{length, getD}
+use borrow.Author.Tests.{lt-ltb, ne-eqb, le-leb}
+use Rattle.basics.proofs.Laws.Test.{lt-or-le}
+use Rattle.refusal.specs.Chain.{next}
+use Rattle.refusal.specs.Number.{refusalPlain}
+use Rattle.refusal.specs.declared.Reason.the-variants.{NothingToUndo, BrokenDesk, Room}
+use Rattle.refusal.specs.declared.Refusal.{Refusal}
+use Rattle.record.specs.declared.Checked.{Checked}
+use Rattle.record.specs.declared.Checked.the-variants.{Passed, Refused}
+use Rattle.record.specs.Checked.{checkedOf}
+use Rattle.record.specs.Items.{items, broken, recordRefusal}
+use Rattle.record.specs.Item.{itemRefusal, cleanOf, putItem}
+use Rattle.record.specs.Stored.{storeRefusal, storeLeaves}
+use Rattle.record.proofs.Laws.Checks.{told}
+use Rattle.packet.specs.Writing.{writeRefusal, writtenWords}
+use Rattle.packet.specs.Written.{writeLeaves}
+use Rattle.packet.proofs.Laws.Record.{rules-decide}
+use Rattle.desk.specs.declared.Step.{Step}
+use Rattle.desk.specs.declared.Desk.{Desk}
+use Rattle.desk.specs.declared.Turn.{Turn}
+use Rattle.desk.specs.Desk.{blank, heldOf, stepOf, pushed, countOn, backFrom, edited, undoRefusal, undone, sendRefusal, sent, sendLeaves}
+
+-- a desk with other bytes, CI, steps and count
+abbrev desk : List ℕ → Bool → ℕ → List Step → ℕ → Desk
+desk b on ci steps count = record { bytes = b; correction = on; ci = ci; steps = steps; count = count }
+
+-- the answer with a desk and a check
+abbrev turn : Desk → Checked → Turn
+turn d c = record { desk = d; checked = c }
+
+-- ---- edit
+
+next-none : (o : Option Refusal) → next o none ≡ o
+next-none none = refl
+next-none (some why) = refl
+
+module _ (d : Desk) (item : ℕ) (bytes : List ℕ) (said : Checked) (n : length (d .bytes) ≡ 248) (e : said ≡ checkedOf (storeRefusal item bytes (length (d .bytes)))) where
+  item-said : said ≡ checkedOf (itemRefusal item bytes)
+  unfolding storeRefusal
+  item-said = e ∙ rw n (ap checkedOf (next-none (itemRefusal item bytes)))
+
+  pub edit-refused : (why : Refusal) → said ≡ Refused why → turn d said ≡ edited d item bytes
+  unfolding edited
+  edit-refused why s = rw (told (itemRefusal item bytes) said (Refused why) item-said s, s)
+
+  module _ (s : said ≡ Passed) where
+    store-left : storeLeaves item bytes (d .bytes) ≡ putItem item (cleanOf item bytes) (d .bytes)
+    unfolding storeLeaves storeRefusal
+    store-left = rw (n, told (itemRefusal item bytes) said Passed item-said s)
+
+    pub edit-done : (new : List ℕ) (k c : ℕ) (step : Step) (steps : List Step) → new ≡ storeLeaves item bytes (d .bytes) → k ≡ heldOf (d .count)
+        → step ≡ stepOf item (d .bytes) → steps ≡ pushed (d .steps) k step → c ≡ countOn k
+        → turn (desk new (d .correction) (d .ci) steps c) said ≡ edited d item bytes
+    unfolding edited
+    edit-done new k c step steps en ek es et ec =
+        rw (ec, et, es, ek, en, store-left, told (itemRefusal item bytes) said Passed item-said s, s)
+
+-- ---- undo
+
+held-zero : (count : ℕ) → heldOf count ≡ 0 → count ≡ 0
+unfolding heldOf
+held-zero count = by (ltb 32 count)
+  where
+    by : (t : Bool) → cond t 32 count ≡ 0 → count ≡ 0
+    by true e = absurd (let z : _≡_ {A = ℕ} 32 0 = e in omega arith)
+    by false e = e
+
+held-some : (count : ℕ) → (heldOf count ≡ 0 → ⊥) → 0 < count
+unfolding heldOf
+held-some count f = ⊎-elim (λ h. h) (λ h. absurd (f (let z : count ≡ 0 = omega arith in rw z))) (lt-or-le 0 count)
+
+module _ (d : Desk) (k : ℕ) (e : k ≡ heldOf (d .count)) where
+  pub undo-none : (why : Refusal) → k ≡ 0 → why ≡ refusalPlain NothingToUndo → turn d (Refused why) ≡ undone d
+  unfolding undone undoRefusal
+  undo-none why z w = rw (held-zero (d .count) (sym e ∙ z), w)
+
+  pub undo-done : (new : List ℕ) → (k ≡ 0 → ⊥) → new ≡ backFrom (getD (d .steps) (k - 1) blank) (d .bytes)
+      → turn (desk new (d .correction) (d .ci) (d .steps) (k - 1)) Passed ≡ undone d
+  unfolding undone undoRefusal
+  undo-done new f b = simp (lt-ltb 0 (d .count) (held-some (d .count) (λ z. f (e ∙ z)))) (rw (b, e))
+
+-- ---- send
+
+module _ (d : Desk) (old : List ℕ) (said : Checked) (n : length (d .bytes) ≡ 248) (e : said ≡ checkedOf (recordRefusal (d .bytes))) where
+  rules-said : (o : Checked) → said ≡ o → checkedOf (broken items (d .bytes)) ≡ o
+  rules-said o s = ap checkedOf (sym (rules-decide (d .bytes) n)) ∙ sym e ∙ s
+
+  pub send-broken : (why given : Refusal) → said ≡ Refused why → given ≡ refusalPlain BrokenDesk
+      → (turn d (Refused given) ≡ sent d (length old)) × (old ≡ sendLeaves d old)
+  unfolding sent sendLeaves sendRefusal
+  send-broken why given s g =
+      let b : broken items (d .bytes) ≡ some why = told (broken items (d .bytes)) (Refused why) (Refused why) (sym (rules-said (Refused why) s)) refl in
+      rw (b, g) (refl, refl)
+
+  module _ (s : said ≡ Passed) where
+    kept : broken items (d .bytes) ≡ none
+    kept = told (broken items (d .bytes)) Passed Passed (sym (rules-said Passed s)) refl
+
+    pub send-room : (given : Refusal) → (length old ≡ 262 → ⊥) → given ≡ refusalPlain Room
+        → (turn d (Refused given) ≡ sent d (length old)) × (old ≡ sendLeaves d old)
+    unfolding sent sendLeaves sendRefusal
+    send-room given f g = simp (kept, ne-eqb (length old) 262 f) (rw g (refl, refl))
+
+    pub send-done : (left : List ℕ) → length old ≡ 262 → left ≡ writeLeaves (d .correction) (d .ci % 16) (d .bytes) old
+        → (turn (desk (d .bytes) (d .correction) ((d .ci % 16 + 1) % 16) (d .steps) (d .count)) Passed ≡ sent d (length old)) × (left ≡ sendLeaves d old)
+    unfolding sent sendLeaves sendRefusal writeLeaves writeRefusal writtenWords
+    send-done left m w =
+        let c : d .ci % 16 < 16 = mod-lt (d .ci) (omega arith) in
+        simp (kept, m) (refl, w ∙ simp (kept, n, m, le-leb (d .ci % 16) 15 (omega arith)))

@@ -1,0 +1,283 @@
+-- A desk stands for a history: the opened one does, and each call leads on to the history that it makes. So each packet sent is that of the
+-- present record with the number of sends, modulo 16, as its index, and an undo gives back the very record before the latest edit.
+-- Assumes nothing.
+use mathlib.Core.Path.{_≡_, refl, sym, ap, _∙_, subst}
+use mathlib.Core.Bool.{Bool, true, false, cond}
+use mathlib.Core.List.{List, [], _∷_}
+use mathlib.Core.Logic.{⊎-elim}
+use mathlib.Core.Option.{Option, none, some}
+use Prim.Native.Nat.{ℕ, zero, suc, _+_, _-_, _%_, _≤_, _<_}
+use native.Mathlib.Omega.{arith}
+use lib.Dec.{T, eqb, ltb, ltb→lt}
+use lib.ListN.{length, take, drop, getD, List·getD-eq-default}
+use borrow.Author.Tests.{lt-ltb}
+use Rattle.basics.proofs.Laws.Test.{lt-or-le, every, every-at}
+use Rattle.refusal.specs.Chain.{require, passed, leftBy}
+use Rattle.refusal.specs.Number.{refusalPlain}
+use Rattle.refusal.specs.declared.Reason.the-variants.{Room}
+use Rattle.refusal.specs.declared.Refusal.{Refusal}
+use Rattle.basics.specs.Each.{all}
+use Rattle.record.specs.Rules.{stationRule, stationByte, timeRule, timeByte, decimal, pictureRule, pictureClean, soundRule, soundByte}
+use Rattle.record.specs.Items.{items, part, cleaned, recordOf, broken}
+use Rattle.record.specs.Item.{rowOf, put, putIn, itemRefusal, cleanOf, putItem}
+use Rattle.record.proofs.Laws.Record.{Bytes}
+use Rattle.record.proofs.Laws.Stored.{Clean, clean-long, store-clean}
+use Rattle.packet.specs.Layout.{packetWords}
+use Rattle.desk.specs.declared.Step.{Step}
+use Rattle.desk.specs.declared.Desk.{Desk}
+use Rattle.desk.specs.Desk.{depth, opening, noStep, opened, heldOf, stepOf, pushed, countOn, blank, backFrom, edited, undoRefusal, undone, sendRefusal, sent, sendLeaves}
+use Rattle.desk.specs.Model.{Model, fresh, editM, undoTo, sendM}
+use Rattle.desk.proofs.Laws.History.{newest, unwound, unwound-step, unwound-take, held-few, pushed-length, push-newest, count-more, count-few, back-from-step, pop}
+
+-- ---- what is so of the present record and of each earlier one
+
+abbrev pub All : (List ℕ → Type 0) → List (List ℕ) → Type 0
+All P [] = Unit {0}
+All P (r ∷ rs) = P r × All P rs
+
+pub record Holds (P : List ℕ → Type 0) (m : Model) : Type 0 where
+  pub present : P (m .present)
+  pub earlier : All P (m .earlier)
+
+all-take : (P : List ℕ → Type 0) (k : ℕ) (rs : List (List ℕ)) → All P rs → All P (take k rs)
+all-take P zero rs a = tt
+all-take P (suc k) [] a = tt
+all-take P (suc k) (r ∷ rs) a = (a .0, all-take P k rs (a .1))
+
+module _ (P : List ℕ → Type 0) where
+  pub edit-holds : (item : ℕ) (bytes : List ℕ) (m : Model) → (itemRefusal item bytes ≡ none → P (m .present) → P (putItem item (cleanOf item bytes) (m .present)))
+      → Holds P m → Holds P (editM item bytes m)
+  unfolding editM
+  edit-holds item bytes m f h = by (itemRefusal item bytes) (λ e. f e (h .present))
+    where
+      by : (o : Option Refusal) → (o ≡ none → P (putItem item (cleanOf item bytes) (m .present)))
+          → Holds P (leftBy o (record { present = putItem item (cleanOf item bytes) (m .present); earlier = take depth (m .present ∷ m .earlier); sends = m .sends }) m)
+      by none g = record { present = g refl; earlier = all-take P depth (m .present ∷ m .earlier) (h .present, h .earlier) }
+      by (some why) g = h
+
+  pub undo-holds : (m : Model) → Holds P m → Holds P (undoTo (m .earlier) m)
+  undo-holds m h = by (m .earlier) (h .earlier)
+    where
+      by : (rs : List (List ℕ)) → All P rs → Holds P (undoTo rs m)
+      by [] a = h
+      by (r ∷ rs) a = record { present = a .0; earlier = a .1 }
+
+  pub send-holds : (room : ℕ) (m : Model) → Holds P m → Holds P (sendM room m)
+  unfolding sendM
+  send-holds room m h = by (eqb room 262)
+    where
+      by : (t : Bool) → Holds P (cond t (record { present = m .present; earlier = m .earlier; sends = m .sends + 1 }) m)
+      by true = record { present = h .present; earlier = h .earlier }
+      by false = h
+
+-- ---- a desk that stands for a history
+
+pub record Stands (on : Bool) (d : Desk) (m : Model) : Type 0 where
+  pub bytes : d .bytes ≡ m .present
+  pub correction : d .correction ≡ on
+  pub ci : d .ci ≡ m .sends % 16
+  pub room : length (d .steps) ≡ 32
+  pub count : d .count ≡ length (m .earlier)
+  pub few : d .count ≤ 32
+  pub history : unwound (newest (d .steps) (d .count)) (d .bytes) ≡ m .earlier
+  pub clean : Holds Clean m
+
+-- the opening record is clean
+opening-clean : Clean opening
+unfolding opening items part cleaned recordOf broken rowOf put putIn putItem stationRule stationByte timeRule timeByte decimal all pictureRule pictureClean soundRule soundByte
+opening-clean = record { long = refl; rules = refl; own = refl }
+
+pub open-stands : (on : Bool) → Stands on (opened on) fresh
+unfolding opened fresh newest unwound noStep
+open-stands on =
+    record {
+      bytes = refl;
+      correction = refl;
+      ci = refl;
+      room = refl;
+      count = refl;
+      few = omega arith;
+      history = refl;
+      clean = record { present = opening-clean; earlier = tt };
+    }
+
+-- two calls that are refused for the same
+both-by : (P : Desk → Model → Type 0) (o : Option Refusal) (d′ d : Desk) (m′ m : Model) → (o ≡ none → P d′ m′) → P d m → P (leftBy o d′ d) (leftBy o m′ m)
+both-by P none d′ d m′ m f p = f refl
+both-by P (some why) d′ d m′ m f p = p
+
+-- ---- an edit
+
+module _ (on : Bool) (d : Desk) (m : Model) (s : Stands on d m) where
+  stands-long : length (d .bytes) ≡ 248
+  stands-long = ap length (s .bytes) ∙ s .clean .present .long
+
+  module _ (item : ℕ) (bytes : List ℕ) where
+    abbrev new : List ℕ
+    new = cleanOf item bytes
+
+    edit-history : itemRefusal item bytes ≡ none
+        → unwound (newest (pushed (d .steps) (heldOf (d .count)) (stepOf item (d .bytes))) (countOn (heldOf (d .count)))) (putItem item new (d .bytes)) ≡ take 32 (m .present ∷ m .earlier)
+    edit-history a =
+        let back : backFrom (stepOf item (d .bytes)) (putItem item new (d .bytes)) ≡ d .bytes =
+        back-from-step item new (d .bytes) stands-long (clean-long item bytes a) in
+        let pushes = push-newest (d .steps) (d .count) (stepOf item (d .bytes)) (s .room) (s .few) in
+        let whole : unwound (stepOf item (d .bytes) ∷ newest (d .steps) (d .count)) (putItem item new (d .bytes)) ≡ m .present ∷ m .earlier =
+        unwound-step (stepOf item (d .bytes)) (newest (d .steps) (d .count)) (putItem item new (d .bytes)) ∙ rw back (λ i. s .bytes i ∷ s .history i) in
+        rw (held-few (d .count) (s .few), pushes, unwound-take 32 (stepOf item (d .bytes) ∷ newest (d .steps) (d .count)) (putItem item new (d .bytes)))
+        (ap (take 32) whole)
+
+    edit-accepted : itemRefusal item bytes ≡ none → Stands on (record {
+      bytes = putItem item new (d .bytes);
+      correction = d .correction;
+      ci = d .ci;
+      steps = pushed (d .steps) (heldOf (d .count)) (stepOf item (d .bytes));
+      count = countOn (heldOf (d .count));
+    }) (record { present = putItem item new (m .present); earlier = take depth (m .present ∷ m .earlier); sends = m .sends })
+    edit-accepted a =
+        record {
+          bytes = ap (putItem item new) (s .bytes);
+          correction = s .correction;
+          ci = s .ci;
+          room = pushed-length (d .steps) (heldOf (d .count)) (stepOf item (d .bytes)) (s .room);
+          count = rw (held-few (d .count) (s .few)) (count-more (d .count) (s .few) (m .earlier) (m .present) (s .count));
+          few = rw (held-few (d .count) (s .few)) (count-few (d .count) (s .few));
+          history = edit-history a;
+          clean = record {
+            present = store-clean item bytes (m .present) a (s .clean .present);
+            earlier = all-take Clean depth (m .present ∷ m .earlier) (s .clean .present, s .clean .earlier);
+          };
+        }
+
+    pub edit-stands : Stands on (edited d item bytes .desk) (editM item bytes m)
+    unfolding edited editM
+    edit-stands = both-by (Stands on) (itemRefusal item bytes) _ d _ m edit-accepted s
+
+  -- ---- an undo
+
+  undo-empty : m .earlier ≡ [] → undone d .desk ≡ d
+  unfolding undone undoRefusal
+  undo-empty e = let z : d .count ≡ 0 = s .count ∙ ap length e in rw z
+
+  module _ (r : List ℕ) (rs : List (List ℕ)) (e : m .earlier ≡ r ∷ rs) where
+    counted : d .count ≡ suc (length rs)
+    counted = s .count ∙ ap length e
+
+    some-step : 0 < d .count
+    some-step = omega (arith, counted)
+
+    undo-history : backFrom (getD (d .steps) (d .count - 1) blank) (d .bytes) ∷ unwound (newest (d .steps) (d .count - 1)) (backFrom (getD (d .steps) (d .count - 1) blank) (d .bytes)) ≡ r ∷ rs
+    undo-history =
+        let few : d .count ≤ length (d .steps) = omega (arith, s .few, s .room) in
+        sym (unwound-step (getD (d .steps) (d .count - 1) blank) (newest (d .steps) (d .count - 1)) (d .bytes))
+        ∙ ap (λ (l : List Step). unwound l (d .bytes)) (sym (pop (d .steps) (d .count) some-step few))
+        ∙ s .history ∙ e
+
+    undo-accepted : Stands on (record { bytes = backFrom (getD (d .steps) (d .count - 1) blank) (d .bytes); correction = d .correction; ci = d .ci; steps = d .steps; count = d .count - 1 })
+        (record { present = r; earlier = rs; sends = m .sends })
+    undo-accepted =
+        let c : All Clean (r ∷ rs) = subst (All Clean) e (s .clean .earlier) in
+        record {
+          bytes = ap (λ (l : List (List ℕ)). getD l 0 []) undo-history;
+          correction = s .correction;
+          ci = s .ci;
+          room = s .room;
+          count = omega (arith, counted);
+          few = omega (arith, s .few);
+          history = ap (λ (l : List (List ℕ)). drop 1 l) undo-history;
+          clean = record { present = c .0; earlier = c .1 };
+        }
+
+    undo-some : Stands on (undone d .desk) (record { present = r; earlier = rs; sends = m .sends })
+    unfolding undone undoRefusal
+    undo-some = simp (lt-ltb 0 (d .count) some-step) (rw (held-few (d .count) (s .few)) undo-accepted)
+
+  pub undo-stands : Stands on (undone d .desk) (undoTo (m .earlier) m)
+  undo-stands = by (m .earlier) refl
+    where
+      by : (rs : List (List ℕ)) → m .earlier ≡ rs → Stands on (undone d .desk) (undoTo rs m)
+      by [] e = subst (λ (x : Desk). Stands on x m) (sym (undo-empty e)) s
+      by (r ∷ rs) e = undo-some r rs e
+
+  -- ---- a send
+
+  -- the rules are kept, so that only the room decides
+  pub send-by-room : (room : ℕ) → sendRefusal d room ≡ require (eqb room 262) (refusalPlain Room) passed
+  unfolding sendRefusal
+  send-by-room room = rw (s .bytes, s .clean .present .rules)
+
+  pub send-stands : (room : ℕ) → Stands on (sent d room .desk) (sendM room m)
+  unfolding sent sendM
+  send-stands room = rw (send-by-room room) (by (eqb room 262))
+    where
+      by : (t : Bool) → Stands on
+          (leftBy (require t (refusalPlain Room) passed) (record { bytes = d .bytes; correction = d .correction; ci = (d .ci % 16 + 1) % 16; steps = d .steps; count = d .count }) d)
+          (cond t (record { present = m .present; earlier = m .earlier; sends = m .sends + 1 }) m)
+      by true =
+          record {
+            bytes = s .bytes;
+            correction = s .correction;
+            ci = omega (arith, s .ci);
+            room = s .room;
+            count = s .count;
+            few = s .few;
+            history = s .history;
+            clean = record { present = s .clean .present; earlier = s .clean .earlier };
+          }
+      by false = s
+
+  -- the words sent are those of the present record, with the number of sends modulo 16 as their index
+  pub sent-words : (old : List ℕ) → length old ≡ 262 → sendLeaves d old ≡ packetWords on (m .sends % 16) (m .present)
+  unfolding sendLeaves
+  sent-words old n =
+      let c : d .ci % 16 ≡ m .sends % 16 = omega (arith, s .ci) in
+      rw (send-by-room (length old), n, c, s .correction, s .bytes, s .clean .present .own)
+
+-- ---- undo after an edit, and the index
+
+-- an undo after an accepted edit gives back the bytes before it
+pub undo-edit : (on : Bool) (d : Desk) (m : Model) → Stands on d m → (item : ℕ) (bytes : List ℕ) → itemRefusal item bytes ≡ none
+    → undone (edited d item bytes .desk) .desk .bytes ≡ d .bytes
+unfolding editM
+undo-edit on d m s item bytes a =
+    let e : editM item bytes m .earlier ≡ m .present ∷ take 31 (m .earlier) = rw a in
+    undo-some on (edited d item bytes .desk) (editM item bytes m) (edit-stands on d m s item bytes) (m .present) (take 31 (m .earlier)) e .bytes ∙ sym (s .bytes)
+
+-- an undo never moves the index, whatever the desk
+pub undo-index : (d : Desk) → undone d .desk .ci ≡ d .ci
+unfolding undone
+undo-index d = by (undoRefusal d)
+  where
+    by : (o : Option Refusal) → leftBy o (record { bytes = backFrom (getD (d .steps) (heldOf (d .count) - 1) blank) (d .bytes); correction = d .correction; ci = d .ci; steps = d .steps; count = heldOf (d .count) - 1 }) d .ci ≡ d .ci
+    by none = refl
+    by (some why) = refl
+
+-- ---- the number of sends: an edit and an undo leave it, a send into room for its words is one more
+
+pub edit-sends : (item : ℕ) (bytes : List ℕ) (m : Model) → editM item bytes m .sends ≡ m .sends
+unfolding editM
+edit-sends item bytes m = by (itemRefusal item bytes)
+  where
+    by : (o : Option Refusal)
+        → leftBy o (record { present = putItem item (cleanOf item bytes) (m .present); earlier = take depth (m .present ∷ m .earlier); sends = m .sends }) m .sends ≡ m .sends
+    by none = refl
+    by (some why) = refl
+
+pub undo-sends : (rs : List (List ℕ)) (m : Model) → undoTo rs m .sends ≡ m .sends
+undo-sends [] m = refl
+undo-sends (r ∷ rs) m = refl
+
+pub one-sent : (m : Model) → sendM 262 m .sends ≡ m .sends + 1
+unfolding sendM
+one-sent m = refl
+
+-- ---- the opening record is bytes
+
+opening-test : T (every (λ k b. ltb b 256) 0 opening)
+unfolding opening items rowOf put putIn putItem
+opening-test = tt
+
+pub opening-bytes : Bytes opening
+opening-bytes i =
+    ⊎-elim (λ h. ltb→lt (getD opening i 0) 256 (every-at (λ k b. ltb b 256) opening opening-test i h)) (λ h. rw (List·getD-eq-default opening 0 {n = i} h) (omega arith))
+    (lt-or-le i (length opening))

@@ -1,0 +1,127 @@
+-- The desk: what it opens with, and what an edit, an undo and a send answer and leave, for every desk value.
+-- Assumes nothing.
+use mathlib.Core.Bool.{Bool, true, false, cond}
+use mathlib.Core.List.{List, [], _∷_, _++_}
+use mathlib.Core.Option.{Option, none, some}
+use Prim.Native.Nat.{ℕ, _+_, _-_, _%_}
+use lib.Dec.{eqb, ltb}
+use lib.ListN.{length, take, drop, getD, set, replicate}
+use Rattle.refusal.specs.Chain.{require, passed, leftBy}
+use Rattle.refusal.specs.Number.{refusalPlain}
+use Rattle.refusal.specs.declared.Reason.the-variants.{NothingToUndo, BrokenDesk, Room}
+use Rattle.refusal.specs.declared.Refusal.{Refusal}
+use Rattle.record.specs.Items.{items, broken, recordOf}
+use Rattle.record.specs.Item.{itemRefusal, placeOf, cleanOf, itemPart, putItem}
+use Rattle.record.specs.Checked.{checkedOf}
+use Rattle.packet.specs.Layout.{packetWords}
+use Rattle.desk.specs.declared.Step.{Step}
+use Rattle.desk.specs.declared.Desk.{Desk}
+use Rattle.desk.specs.declared.Turn.{Turn}
+
+-- how many steps the history holds, and how many bytes a step has room for
+abbrev pub depth : ℕ
+depth = 32
+
+abbrev pub stepRoom : ℕ
+stepRoom = 9
+
+-- a call's answer: the desk that passed checks lead to, or the desk as it was; and the check
+abbrev pub turnBy : Option Refusal → Desk → Desk → Turn
+turnBy o new old = record { desk = leftBy o new old; checked = checkedOf o }
+
+-- ---- open
+
+-- what a desk opens with: eight 0x20; 0xFF in items 2, 5, 8, 10 and 11; zero elsewhere
+unfoldable pub opening : List ℕ
+opening =
+    putItem 11 (replicate 4 0xFF)
+    (putItem 10 (replicate 4 0xFF)
+    (putItem 8 (replicate 1 0xFF)
+    (putItem 5 (replicate 1 0xFF)
+    (putItem 2 (replicate 9 0xFF)
+    (putItem 1 (replicate 8 0x20)
+    (replicate 248 0))))))
+
+-- the place of a step that is not there
+unfoldable pub noStep : Step
+noStep = record { item = 0; old = replicate stepRoom 0 }
+
+-- with correction on or off, CI 0 and no history
+unfoldable pub opened : Bool → Desk
+opened correction = record { bytes = opening; correction = correction; ci = 0; steps = replicate depth noStep; count = 0 }
+
+-- ---- the steps, the oldest first; those from the count on are not there
+
+-- a count above the depth, which no opening leads to, is taken for the depth
+unfoldable pub heldOf : ℕ → ℕ
+heldOf count = cond (ltb depth count) depth count
+
+-- the bytes that an item has, and zeros up to a step's room
+unfoldable pub stepOf : ℕ → List ℕ → Step
+stepOf item bytes = record { item = item; old = itemPart item bytes ++ drop (placeOf item .length) (replicate stepRoom 0) }
+
+-- with one more step; the oldest goes where there is no room
+unfoldable pub pushed : List Step → ℕ → Step → List Step
+pushed steps count s = cond (ltb count depth) (set steps count s) (drop 1 steps ++ s ∷ [])
+
+unfoldable pub countOn : ℕ → ℕ
+countOn count = cond (ltb count depth) (count + 1) depth
+
+-- what the logic reads past the end of the steps
+abbrev pub blank : Step
+blank = record { item = 0; old = [] }
+
+-- the latest step
+abbrev pub latest : Desk → Step
+latest d = getD (d .steps) (heldOf (d .count) - 1) blank
+
+-- the bytes before a step
+unfoldable pub backFrom : Step → List ℕ → List ℕ
+backFrom s bytes = putItem (s .item) (take (placeOf (s .item) .length) (s .old)) bytes
+
+-- ---- edit: 20, 21, the item's rule
+
+unfoldable pub edited : Desk → ℕ → List ℕ → Turn
+edited d item bytes =
+    turnBy (itemRefusal item bytes)
+    (record {
+      bytes = putItem item (cleanOf item bytes) (d .bytes);
+      correction = d .correction;
+      ci = d .ci;
+      steps = pushed (d .steps) (heldOf (d .count)) (stepOf item (d .bytes));
+      count = countOn (heldOf (d .count));
+    })
+    d
+
+-- ---- undo: 22
+
+unfoldable pub undoRefusal : Desk → Option Refusal
+undoRefusal d = require (ltb 0 (d .count)) (refusalPlain NothingToUndo) passed
+
+unfoldable pub undone : Desk → Turn
+undone d =
+    turnBy (undoRefusal d)
+    (record { bytes = backFrom (latest d) (d .bytes); correction = d .correction; ci = d .ci; steps = d .steps; count = heldOf (d .count) - 1 })
+    d
+
+-- ---- send: 24, 23
+
+-- is no rule broken?
+abbrev pub noneBroken : Option Refusal → Bool
+noneBroken none = true
+noneBroken (some why) = false
+
+unfoldable pub sendRefusal : Desk → ℕ → Option Refusal
+sendRefusal d room =
+    require (noneBroken (broken items (d .bytes))) (refusalPlain BrokenDesk) (require (eqb room 262) (refusalPlain Room) passed)
+
+-- CI modulo 16 is sent, and the next is counted on from it
+unfoldable pub sent : Desk → ℕ → Turn
+sent d room =
+    turnBy (sendRefusal d room)
+    (record { bytes = d .bytes; correction = d .correction; ci = (d .ci % 16 + 1) % 16; steps = d .steps; count = d .count })
+    d
+
+-- what is left in the lent buffer: the packet of the record of the desk's bytes, or what was there
+unfoldable pub sendLeaves : Desk → List ℕ → List ℕ
+sendLeaves d old = leftBy (sendRefusal d (length old)) (packetWords (d .correction) (d .ci % 16) (recordOf (d .bytes))) old

@@ -1,0 +1,4 @@
+-- Laws of the follower.
+pub mod Count
+pub mod Read
+pub mod Follow

@@ -1,0 +1,35 @@
+-- What the contracts say of the calls, as equations.
+-- Assumes nothing.
+use mathlib.Core.Path.{_≡_, sym, ap, ap₂, _∙_}
+use mathlib.Core.Bool.{Bool}
+use mathlib.Core.List.{List}
+use Prim.Native.Nat.{ℕ}
+use lib.ListN.{length}
+use Rattle.desk.specs.declared.Desk.{Desk}
+use Rattle.desk.specs.declared.Turn.{Turn}
+use Rattle.desk.specs.Desk.{opened, edited, undone, sent, sendLeaves}
+use Rattle.follower.specs.declared.Follower.{Follower}
+use Rattle.follower.specs.declared.Followed.{Followed}
+use Rattle.follower.specs.Follower.{followed, opened as begun}
+use Rattle.promises.specs.Calls.{Opens, Edits, Undoes, Sends, Begins, Follows}
+
+pub opens-is : (on : Bool) (d : Desk) → Opens on d → d ≡ opened on
+opens-is on d O = O .allowed ∙ ap opened (O .correction)
+
+pub edits-is : (d : Desk) (item : ℕ) (bytes : List ℕ) (t : Turn) → Edits d item bytes t → t ≡ edited d item bytes
+edits-is d item bytes t E = E .allowed ∙ (λ i. edited (E .own i) (E .number i) (E .lent i))
+
+pub undoes-is : (d : Desk) (t : Turn) → Undoes d t → t ≡ undone d
+undoes-is d t U = U .allowed ∙ ap undone (U .own)
+
+pub sends-is : (d : Desk) (old : List ℕ) (t : Turn) (left : List ℕ) → Sends d old t left → t ≡ sent d (length old)
+sends-is d old t left S = S .allowed .0 ∙ (λ i. sent (S .own i) (length (S .lent i)))
+
+pub sends-leaves : (d : Desk) (old : List ℕ) (t : Turn) (left : List ℕ) → Sends d old t left → left ≡ sendLeaves d old
+sends-leaves d old t left S = sym (S .leaves) ∙ S .allowed .1 ∙ (λ i. sendLeaves (S .own i) (S .lent i))
+
+pub begins-is : (f : Follower) → Begins f → f ≡ begun
+begins-is f B = B .allowed
+
+pub follows-is : (f : Follower) (ws : List ℕ) (a : Followed) → Follows f ws a → a ≡ followed f ws
+follows-is f ws a F = F .allowed ∙ ap₂ followed (F .own) (F .lent)

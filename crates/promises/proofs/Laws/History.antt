@@ -1,0 +1,107 @@
+-- Demand 2: a desk shows, and sends, the record that its history gives.
+-- Assumes nothing.
+use mathlib.Core.Path.{_≡_, refl, sym, ap, _∙_, subst}
+use mathlib.Core.Bool.{Bool, true, false, cond}
+use mathlib.Core.List.{List, [], _∷_}
+use mathlib.Core.Logic.{_⊎_, inl, inr}
+use mathlib.Core.Option.{Option, none, some}
+use Prim.Native.Nat.{ℕ, _%_}
+use borrow.Author.Tests.{eqb-true}
+use lib.Dec.{eqb}
+use lib.ListN.{length}
+use Rattle.refusal.specs.Chain.{require, passed, leftBy}
+use Rattle.refusal.specs.Number.{refusalPlain}
+use Rattle.refusal.specs.declared.Reason.the-variants.{Room}
+use Rattle.record.specs.declared.Checked.the-variants.{Passed}
+use Rattle.record.specs.Checked.{checkedOf}
+use Rattle.record.specs.Item.{itemRefusal}
+use Rattle.record.proofs.Laws.Record.{Bytes}
+use Rattle.record.proofs.Laws.Checks.{told}
+use Rattle.record.proofs.Laws.Stored.{store-bytes}
+use Rattle.packet.specs.Layout.{packetWords}
+use Rattle.packet.proofs.Laws.Record.{bytes-getD}
+use Rattle.desk.specs.declared.Desk.{Desk}
+use Rattle.desk.specs.declared.Turn.{Turn}
+use Rattle.desk.specs.Desk.{opening, edited, undone, sent, sendRefusal, sendLeaves}
+use Rattle.desk.specs.Model.{Model, fresh, editM, undoTo, sendM}
+use Rattle.desk.proofs.Laws.Model.{Stands, Holds, open-stands, edit-stands, undo-stands, send-stands, send-by-room, sent-words, undo-edit, undo-index, edit-holds, undo-holds, send-holds, opening-bytes}
+use Rattle.promises.specs.Calls.{Opens, Edits, Undoes, Sends}
+use Rattle.promises.specs.History.{Turns, edits, undoes, History, opens, turns, sends}
+use Rattle.promises.proofs.Laws.Calls.{opens-is, edits-is, undoes-is, sends-is, sends-leaves}
+
+-- ---- a desk stands for its history
+
+turn-stands : (on : Bool) (d : Desk) (m : Model) (d′ : Desk) (m′ : Model) → Stands on d m → Turns d m d′ m′ → Stands on d′ m′
+turn-stands on d m d′ m′ s (edits {item = item} {bytes = bytes} {answer = t} E) =
+    subst (λ (x : Turn). Stands on (x .desk) (editM item bytes m)) (sym (edits-is d item bytes t E)) (edit-stands on d m s item bytes)
+turn-stands on d m d′ m′ s (undoes {answer = t} U) =
+    subst (λ (x : Turn). Stands on (x .desk) (undoTo (m .earlier) m)) (sym (undoes-is d t U)) (undo-stands on d m s)
+
+pub stands : (on : Bool) (d : Desk) (m : Model) → History on d m → Stands on d m
+stands on d m (opens {d = d₀} O) = subst (λ (x : Desk). Stands on x fresh) (sym (opens-is on d₀ O)) (open-stands on)
+stands on d m (turns {d = d₀} {m = m₀} h t) = turn-stands on d₀ m₀ d m (stands on d₀ m₀ h) t
+stands on d m (sends {d = d₀} {m = m₀} {old = old} {answer = t} {left = left} h S) =
+    subst (λ (x : Turn). Stands on (x .desk) (sendM (length old) m₀)) (sym (sends-is d₀ old t left S)) (send-stands on d₀ m₀ (stands on d₀ m₀ h) (length old))
+
+-- ---- what is shown
+
+pub shown : (on : Bool) (d : Desk) (m : Model) → History on d m → d .bytes ≡ m .present
+shown on d m h = stands on d m h .bytes
+
+-- ---- what is sent
+
+-- into room for 262 words: exactly the words of the record that the history gives, with the number of packets sent before as their index
+pub sent-is : (on : Bool) (d : Desk) (m : Model) → History on d m → (old : List ℕ) (t : Turn) (left : List ℕ) → Sends d old t left → length old ≡ 262
+    → (t .checked ≡ Passed) × (left ≡ packetWords on (m .sends % 16) (m .present))
+unfolding sent
+sent-is on d m h old t left S n =
+    let s = stands on d m h in (
+      ap (λ (x : Turn). x .checked) (sends-is d old t left S) ∙ rw (send-by-room on d m s (length old), n),
+      sends-leaves d old t left S ∙ sent-words on d m s old n,
+    )
+
+refused-leaves : (on : Bool) (d : Desk) (m : Model) → Stands on d m → (old : List ℕ) → eqb (length old) 262 ≡ false → sendLeaves d old ≡ old
+unfolding sendLeaves
+refused-leaves on d m s old e = rw (send-by-room on d m s (length old), e)
+
+-- into any room: these words, or a refusal that leaves what was there
+pub never-other : (on : Bool) (d : Desk) (m : Model) → History on d m → (old : List ℕ) (t : Turn) (left : List ℕ) → Sends d old t left
+    → (left ≡ packetWords on (m .sends % 16) (m .present)) ⊎ (left ≡ old)
+never-other on d m h old t left S = by (eqb (length old) 262) refl
+  where
+    by : (b : Bool) → eqb (length old) 262 ≡ b → (left ≡ packetWords on (m .sends % 16) (m .present)) ⊎ (left ≡ old)
+    by true e = inl (sent-is on d m h old t left S (eqb-true (length old) 262 e) .1)
+    by false e = inr (sends-leaves d old t left S ∙ refused-leaves on d m (stands on d m h) old e)
+
+-- ---- what undo gives back
+
+module _ (on : Bool) (d : Desk) (m : Model) (h : History on d m) (item : ℕ) (bytes : List ℕ) (t u : Turn) (E : Edits d item bytes t) (done : t .checked ≡ Passed)
+    (U : Undoes (t .desk) u) where
+  passed-edit : itemRefusal item bytes ≡ none
+  unfolding edited
+  passed-edit = told (itemRefusal item bytes) (t .checked) Passed (ap (λ (x : Turn). x .checked) (edits-is d item bytes t E)) done
+
+  -- the very record before the latest edit
+  pub undo-gives-back : u .desk .bytes ≡ d .bytes
+  undo-gives-back =
+      ap (λ (x : Turn). x .desk .bytes) (undoes-is (t .desk) u U) ∙ ap (λ (x : Turn). undone (x .desk) .desk .bytes) (edits-is d item bytes t E)
+      ∙ undo-edit on d m (stands on d m h) item bytes passed-edit
+
+-- and the index stays where it is, whatever the desk
+pub undo-keeps-index : (d : Desk) (t : Turn) → Undoes d t → t .desk .ci ≡ d .ci
+undo-keeps-index d t U = ap (λ (x : Turn). x .desk .ci) (undoes-is d t U) ∙ undo-index d
+
+-- ---- the records of a history are bytes
+
+open-bytes : Holds Bytes fresh
+unfolding fresh
+open-bytes = record { present = opening-bytes; earlier = tt }
+
+turn-bytes : (d : Desk) (m : Model) (d′ : Desk) (m′ : Model) → Holds Bytes m → Turns d m d′ m′ → Holds Bytes m′
+turn-bytes d m d′ m′ b (edits {item = item} {bytes = bytes} E) = edit-holds Bytes item bytes m (λ a p. store-bytes item bytes (m .present) (bytes-getD bytes (E .are-bytes)) p) b
+turn-bytes d m d′ m′ b (undoes U) = undo-holds Bytes m b
+
+pub history-bytes : (on : Bool) (d : Desk) (m : Model) → History on d m → Holds Bytes m
+history-bytes on d m (opens O) = open-bytes
+history-bytes on d m (turns {d = d₀} {m = m₀} h t) = turn-bytes d₀ m₀ d m (history-bytes on d₀ m₀ h) t
+history-bytes on d m (sends {d = d₀} {m = m₀} {old = old} h S) = send-holds Bytes (length old) m₀ (history-bytes on d₀ m₀ h)

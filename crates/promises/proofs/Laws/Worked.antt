@@ -1,0 +1,203 @@
+-- The lines of demand 3 are not few: every call can be made on them, any packet on a line can be damaged in three words, and one line with
+-- damage, a repeat and a drop is worked out.
+-- Assumes nothing.
+use mathlib.Core.Path.{_≡_, refl, sym, ap, ap₂, _∙_}
+use mathlib.Core.Bool.{Bool, true, false, _&&_}
+use mathlib.Core.List.{List, [], _∷_, _++_}
+use Prim.Native.Nat.{ℕ, _+_, _≤_}
+use native.Mathlib.Omega.{arith}
+use borrow.Author.Tests.{le-leb}
+use denote.Ref.{RefT}
+use lib.Dec.{leb, lit<}
+use lib.ListN.{length, take, drop, replicate, length-drop}
+use Rattle.basics.specs.Each.{all}
+use Rattle.basics.proofs.Laws.Test.{both-true, never}
+use Rattle.rs.specs.Codeword.{Bytes}
+use Rattle.rs.specs.Decode.{changes}
+use Rattle.rs.proofs.Laws.Distance.{differ-le, changes-self}
+use Rattle.record.specs.Rules.{soundRule, soundByte, oneOf}
+use Rattle.record.specs.Items.{items}
+use Rattle.record.specs.Item.{rowOf, refusedIn, itemRefusal}
+use Rattle.packet.specs.Protected.{narrow}
+use Rattle.packet.specs.Reading.{protectedOf}
+use Rattle.desk.specs.declared.Desk.{Desk}
+use Rattle.desk.specs.Desk.{opened, edited, undone, sent, sendLeaves, opening as desk-opening}
+use Rattle.desk.specs.Model.{Model, fresh, editM, undoTo, sendM}
+use Rattle.follower.specs.declared.Follower.{Follower}
+use Rattle.follower.specs.declared.Heard.{Heard}
+use Rattle.follower.specs.Follower.{followed, opened as begun}
+use Rattle.follower.proofs.Laws.Count.{counted-true}
+use Rattle.promises.specs.Calls.{Opens, Edits, Undoes, Sends, Begins, Follows}
+use Rattle.promises.specs.Line.{Delivers, Fate, unsent, waiting, dropped, delivered, Scene, opening, sent as send-to, turned, lost, heard, Line, opens, turns, sends, drops, delivers, repeats, Agrees}
+use Rattle.promises.specs.History.{edits, undoes}
+use Rattle.promises.proofs.Laws.Line.{Ordinary, waiting-ordinary, delivered-ordinary, demand-3}
+
+-- ---- every call can be made, and answers what its contract says
+
+-- a reference to a value
+abbrev lend : {X : Type 0} → X → RefT X
+lend x = record { ptr = (0, 0); name = 0; now = x }
+
+pub open-call : (on : Bool) → Opens on (opened on)
+open-call on = record { κs = tt; input = (on, tt); exit = (on, tt); correction = refl; allowed = refl }
+
+pub edit-call : (d : Desk) (item : ℕ) (bytes : List ℕ) → Bytes bytes → Edits d item bytes (edited d item bytes)
+edit-call d item bytes b =
+    record {
+      κs = ([], tt);
+      input = (d, (item, (lend bytes, tt)));
+      exit = (d, (item, (lend bytes, tt)));
+      own = refl;
+      number = refl;
+      lent = refl;
+      are-bytes = b;
+      allowed = refl;
+    }
+
+pub undo-call : (d : Desk) → Undoes d (undone d)
+undo-call d = record { κs = tt; input = (d, tt); exit = (d, tt); own = refl; allowed = refl }
+
+pub send-call : (d : Desk) (old : List ℕ) → Sends d old (sent d (length old)) (sendLeaves d old)
+send-call d old =
+    record {
+      κs = ([], tt);
+      input = (d, (lend old, tt));
+      exit = (d, (lend (sendLeaves d old), tt));
+      own = refl;
+      lent = refl;
+      leaves = refl;
+      allowed = (refl, refl);
+    }
+
+pub begin-call : Begins begun
+begin-call = record { κs = tt; input = tt; exit = tt; allowed = refl }
+
+pub follow-call : (f : Follower) (words : List ℕ) → Follows f words (followed f words)
+follow-call f words = record { κs = ([], tt); input = (f, (lend words, tt)); exit = (f, (lend words, tt)); own = refl; lent = refl; allowed = refl }
+
+-- ---- any packet on a line can be damaged in three words
+
+-- other words in the first three protected places
+abbrev pub struck : List ℕ → ℕ → ℕ → ℕ → List ℕ
+struck words x y z = take 7 words ++ (x ∷ y ∷ z ∷ drop 3 (protectedOf words)) ++ drop 261 words
+
+few-struck : (p : List ℕ) (x y z : ℕ) → changes (x ∷ y ∷ z ∷ drop 3 p) p ≤ 3
+unfolding changes
+few-struck [] x y z = omega arith
+few-struck (a ∷ []) x y z = omega (arith, differ-le x a)
+few-struck (a ∷ b ∷ []) x y z = omega (arith, differ-le x a, differ-le y b)
+few-struck (a ∷ b ∷ c ∷ p) x y z = omega (arith, differ-le x a, differ-le y b, differ-le z c, changes-self p)
+
+narrow-rest : (a : ℕ) (p : List ℕ) → narrow (a ∷ p) ≡ true → narrow p ≡ true
+unfolding narrow all
+narrow-rest a p n = both-true (leb a 1023) _ n .1
+
+narrow-front : (a : ℕ) (p : List ℕ) → a ≤ 1023 → narrow p ≡ true → narrow (a ∷ p) ≡ true
+unfolding narrow all
+narrow-front a p h n = ap₂ _&&_ (le-leb a 1023 h) n
+
+narrow-drop : (p : List ℕ) → narrow p ≡ true → narrow (drop 3 p) ≡ true
+narrow-drop [] n = n
+narrow-drop (a ∷ []) n = narrow-rest a [] n
+narrow-drop (a ∷ b ∷ []) n = narrow-rest b [] (narrow-rest a (b ∷ []) n)
+narrow-drop (a ∷ b ∷ c ∷ p) n = narrow-rest c p (narrow-rest b (c ∷ p) (narrow-rest a (b ∷ c ∷ p) n))
+
+pub strike : (words : List ℕ) (x y z : ℕ) → Ordinary words → x ≤ 1023 → y ≤ 1023 → z ≤ 1023 → Delivers words (struck words x y z)
+strike words x y z o hx hy hz =
+    let p : List ℕ = protectedOf words in
+    record {
+      protected = x ∷ y ∷ z ∷ drop 3 p;
+      long = omega (arith, o .long, length-drop 3 p);
+      ten-bits = narrow-front x _ hx (narrow-front y _ hy (narrow-front z _ hz (narrow-drop p (o .ten-bits))));
+      few = few-struck p x y z;
+      rest = refl;
+    }
+
+-- ---- on from any line
+
+-- a buffer for the words
+abbrev room : List ℕ
+room = replicate 262 0
+
+-- is a packet on the line?
+abbrev waits : Fate → Bool
+waits unsent = false
+waits waiting = true
+waits dropped = false
+waits (delivered h) = false
+
+module _ (s : Scene) (l : Line s) where
+  -- an edit and an undo
+  abbrev edited-on : ℕ → List ℕ → Scene
+  edited-on item bytes = turned s (edited (s .desk) item bytes .desk) (editM item bytes (s .history))
+
+  pub edit-on : (item : ℕ) (bytes : List ℕ) → Bytes bytes → Line (edited-on item bytes)
+  edit-on item bytes b = turns l (edits (edit-call (s .desk) item bytes b))
+
+  abbrev undone-on : Scene
+  undone-on = turned s (undone (s .desk) .desk) (undoTo (s .history .earlier) (s .history))
+
+  pub undo-on : Line undone-on
+  undo-on = turns l (undoes (undo-call (s .desk)))
+
+  -- a send
+  abbrev sent-on : Scene
+  sent-on = send-to s (sent (s .desk) 262 .desk) (sendLeaves (s .desk) room)
+
+  pub send-on : waits (s .fate) ≡ false → Line sent-on
+  send-on free = sends l (λ e. never (sym (ap waits e) ∙ free)) refl (send-call (s .desk) room)
+
+  -- a delivery with damage, and a repeat
+  abbrev heard-on : ℕ → ℕ → ℕ → ℕ → Scene
+  heard-on x y z repeated = heard s (followed (s .follower) (struck (s .words) x y z)) repeated
+
+  module _ (x y z : ℕ) (hx : x ≤ 1023) (hy : y ≤ 1023) (hz : z ≤ 1023) where
+    pub deliver-on : s .fate ≡ waiting → (s .begun ≡ true → s .gap ≤ 14) → Line (heard-on x y z (s .repeated))
+    deliver-on w few = delivers l w few (strike (s .words) x y z (waiting-ordinary s l w) hx hy hz) (follow-call (s .follower) (struck (s .words) x y z))
+
+    pub repeat-on : (h : Heard) → s .fate ≡ delivered h → Line (heard-on x y z (s .repeated + 1))
+    repeat-on h w = repeats l w (strike (s .words) x y z (delivered-ordinary s h l w) hx hy hz) (follow-call (s .follower) (struck (s .words) x y z))
+
+-- ---- a line worked out
+
+-- what is so of a scene with one packet missed and one repeated, in which the opening record was sent
+pub record Worked : Type 0 where
+  pub scene : Scene
+  pub line : Line scene
+  pub answer : Heard
+  pub latest : scene .fate ≡ delivered answer
+  pub held : scene .follower .rec ≡ desk-opening
+  pub missed : scene .follower .missed ≡ 1
+  pub repeated : scene .follower .repeated ≡ 1
+
+-- the history of its desk: a send, an edit of the sound mode, a send, an undo
+abbrev edited-once : Model
+edited-once = sendM 262 (editM 6 (0x12 ∷ []) (sendM 262 fresh))
+
+given-back : undoTo (edited-once .earlier) edited-once .present ≡ desk-opening
+unfolding fresh editM sendM itemRefusal refusedIn rowOf items soundRule soundByte oneOf all
+given-back = refl
+
+-- the desk opens and sends; the packet arrives damaged, and once more with other damage; an edit; the next packet is dropped; an undo; the
+-- packet after that arrives damaged
+pub worked : Worked
+worked =
+    let l1 = send-on _ (opens (open-call true) begin-call) refl in
+    let l2 = deliver-on _ l1 0 1 2 (omega arith) (omega arith) (omega arith) refl (λ e. never (sym e)) in
+    let l3 = repeat-on _ l2 3 4 5 (omega arith) (omega arith) (omega arith) _ refl in
+    let l4 = edit-on _ l3 6 (0x12 ∷ []) (lit< tt, tt) in
+    let l5 = send-on _ l4 refl in
+    let l6 = drops l5 refl in
+    let l7 = undo-on _ l6 in
+    let l8 = send-on _ l7 refl in
+    let l9 = deliver-on _ l8 1021 1022 1023 (omega arith) (omega arith) (omega arith) refl (λ e. omega arith) in
+    let A = demand-3 _ _ l9 refl in
+    record {
+      scene = _;
+      line = l9;
+      answer = _;
+      latest = refl;
+      held = A .held ∙ given-back;
+      missed = A .missed ∙ counted-true 1 (omega arith);
+      repeated = A .repeated ∙ counted-true 1 (omega arith);
+    }

@@ -1,0 +1,154 @@
+-- The line from a desk to a follower: what may happen on it, and what is true of it.
+-- Assumes nothing.
+use mathlib.Core.Path.{_≡_}
+use mathlib.Core.Bool.{Bool, true, false, cond}
+use mathlib.Core.List.{List, [], _++_}
+use mathlib.Core.Option.{Option, none}
+use Prim.Native.Nat.{ℕ, _+_, _≤_}
+use lib.ListN.{length, take, drop}
+use Rattle.rs.specs.Decode.{changes}
+use Rattle.packet.specs.Protected.{narrow}
+use Rattle.packet.specs.Reading.{protectedOf}
+use Rattle.desk.specs.declared.Desk.{Desk}
+use Rattle.desk.specs.declared.Turn.{Turn}
+use Rattle.desk.specs.Model.{Model, fresh, sendM}
+use Rattle.follower.specs.declared.Follower.{Follower}
+use Rattle.follower.specs.declared.Followed.{Followed}
+use Rattle.follower.specs.declared.Heard.{Heard}
+use Rattle.follower.specs.Follower.{counted, refusalIn}
+use Rattle.promises.specs.Calls.{Opens, Sends, Begins, Follows}
+use Rattle.promises.specs.History.{Turns}
+
+-- what a delivery may do to a packet: up to three of the 254 protected words are changed to any ten-bit values, and nothing else
+pub record Delivers (sent arrived : List ℕ) : Type 0 where
+  pub protected : List ℕ
+  pub long : length protected ≡ 254
+  pub ten-bits : narrow protected ≡ true
+  pub few : changes protected (protectedOf sent) ≤ 3
+  pub rest : arrived ≡ take 7 sent ++ protected ++ drop 261 sent
+
+-- how the packet that was sent last has fared: there is none; it is on the line; it was dropped; it was delivered, and this was heard in
+-- its latest delivery
+pub data Fate : Type 0 where
+  unsent : Fate
+  waiting : Fate
+  dropped : Fate
+  delivered : Heard → Fate
+
+-- the desk with what its history gives, the follower, and what is true of the line between them
+pub record Scene : Type 0 where
+  pub desk : Desk
+  pub history : Model
+  pub follower : Follower
+  -- of the packet that was sent last: the record, the words, and how they fared
+  pub bytes : List ℕ
+  pub words : List ℕ
+  pub fate : Fate
+  -- has there been a delivery? how many packets were dropped since the latest, how many since the first, and how many deliveries were
+  -- repeats
+  pub begun : Bool
+  pub gap : ℕ
+  pub missed : ℕ
+  pub repeated : ℕ
+
+-- a desk opened with correction on and a fresh follower
+abbrev pub opening : Desk → Follower → Scene
+opening d f =
+    record {
+      desk = d;
+      history = fresh;
+      follower = f;
+      bytes = [];
+      words = [];
+      fate = unsent;
+      begun = false;
+      gap = 0;
+      missed = 0;
+      repeated = 0;
+    }
+
+-- an edit or an undo
+abbrev pub turned : Scene → Desk → Model → Scene
+turned s d m =
+    record {
+      desk = d;
+      history = m;
+      follower = s .follower;
+      bytes = s .bytes;
+      words = s .words;
+      fate = s .fate;
+      begun = s .begun;
+      gap = s .gap;
+      missed = s .missed;
+      repeated = s .repeated;
+    }
+
+-- the words are on the line, with the record that the desk's history gives
+abbrev pub sent : Scene → Desk → List ℕ → Scene
+sent s d left =
+    record {
+      desk = d;
+      history = sendM 262 (s .history);
+      follower = s .follower;
+      bytes = s .history .present;
+      words = left;
+      fate = waiting;
+      begun = s .begun;
+      gap = s .gap;
+      missed = s .missed;
+      repeated = s .repeated;
+    }
+
+-- the packet is lost; it is missed where there was a delivery before it
+abbrev pub lost : Scene → Scene
+lost s =
+    record {
+      desk = s .desk;
+      history = s .history;
+      follower = s .follower;
+      bytes = s .bytes;
+      words = s .words;
+      fate = dropped;
+      begun = s .begun;
+      gap = s .gap + 1;
+      missed = cond (s .begun) (s .missed + 1) (s .missed);
+      repeated = s .repeated;
+    }
+
+-- the packet arrives, after so many repeats in all
+abbrev pub heard : Scene → Followed → ℕ → Scene
+heard s a repeats =
+    record {
+      desk = s .desk;
+      history = s .history;
+      follower = a .follower;
+      bytes = s .bytes;
+      words = s .words;
+      fate = delivered (a .heard);
+      begun = true;
+      gap = 0;
+      missed = s .missed;
+      repeated = repeats;
+    }
+
+-- Every line: packets are sent one after the other; each is dropped, or delivered after at most fourteen that were dropped in a row since
+-- the delivery before; a delivered packet may be delivered again, any number of times, before the next one is sent.
+pub data Line : Scene → Type 0 where
+  opens : {d : Desk} {f : Follower} → Opens true d → Begins f → Line (opening d f)
+  turns : {s : Scene} {d : Desk} {m : Model} → Line s → Turns (s .desk) (s .history) d m → Line (turned s d m)
+  sends : {s : Scene} {old : List ℕ} {answer : Turn} {left : List ℕ} → Line s → (s .fate ≡ waiting → ⊥) → length old ≡ 262
+      → Sends (s .desk) old answer left → Line (sent s (answer .desk) left)
+  drops : {s : Scene} → Line s → s .fate ≡ waiting → Line (lost s)
+  delivers : {s : Scene} {arrived : List ℕ} {answer : Followed} → Line s → s .fate ≡ waiting → (s .begun ≡ true → s .gap ≤ 14)
+      → Delivers (s .words) arrived → Follows (s .follower) arrived answer → Line (heard s answer (s .repeated))
+  repeats : {s : Scene} {before : Heard} {arrived : List ℕ} {answer : Followed} → Line s → s .fate ≡ delivered before
+      → Delivers (s .words) arrived → Follows (s .follower) arrived answer → Line (heard s answer (s .repeated + 1))
+
+-- what is claimed at a delivery: it is accepted, as all before it were, the record held is the one sent in that packet, and the counts
+-- are the true ones, up to the ceiling
+pub record Agrees (s : Scene) (h : Heard) : Type 0 where
+  pub accepted : refusalIn h ≡ none
+  pub refused : s .follower .refused ≡ 0
+  pub held : s .follower .rec ≡ s .bytes
+  pub missed : s .follower .missed ≡ counted 0 (s .missed)
+  pub repeated : s .follower .repeated ≡ counted 0 (s .repeated)
