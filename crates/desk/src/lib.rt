@@ -8,12 +8,14 @@ use record::Checked;
 use refusal::Reason;
 
 // One step of the history: the item that was edited and the bytes it had before, with zeros behind them.
+#[repr(C)]
 pub struct Step {
     pub item: u8,
     pub old: [u8; Desk::STEP],
 }
 
 // The record's bytes, whether correction is on, the index CI of the next packet, and the steps, the oldest first, with their count.
+#[repr(C)]
 pub struct Desk {
     pub bytes: [u8; 248],
     pub correction: bool,

@@ -31,6 +31,7 @@ pub enum Heard {
 }
 
 // Has a packet been accepted; the record and the index of the latest one; and the counts, which stop at the ceiling.
+#[repr(C)]
 pub struct Follower {
     pub started: bool,
     pub rec: [u8; 248],

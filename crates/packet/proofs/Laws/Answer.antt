@@ -27,6 +27,7 @@ use Rattle.refusal.specs.Chain.{leftBy}
 use Rattle.packet.specs.Reading.{correctionOf, indexOf, protectedOf, readWords, readBytes, summedOf, readFixed, headRefusal, protectedRefusal, bodyRefusal, readRefusal, readIntoRefusal, readRecord}
 use Rattle.packet.specs.Answer.{guardBytes, summedBy, packetBy, tailRefusal, refusalIn, packetIn, packetOf, readingBy, readingOf, readingIntoOf, readLeaves}
 use Rattle.packet.specs.declared.Packet.{Packet}
+use Rattle.packet.specs.declared.Reading.{Reading}
 use Rattle.packet.specs.declared.Reading.the-variants.{Accepted, Refused as RefusedReading}
 use Rattle.packet.proofs.Laws.Protected.{low-words, low-bytes}
 use Rattle.packet.proofs.Laws.Repair.{repaired-bytes}
@@ -201,3 +202,41 @@ into-refusal-said ws room = refusal-by (readIntoRefusal ws room) (packetOf ws)
 pub packet-said : (ws : List ℕ) → readRefusal ws ≡ none → packetIn (readingOf ws) ≡ some (packetOf ws)
 unfolding readingOf
 packet-said ws e = ap (λ (o : Option Refusal). packetIn (readingBy o (packetOf ws))) e
+
+-- ---- what a caller that lends room for the record learns
+
+into-room : (ws : List ℕ) → readIntoRefusal ws 248 ≡ readRefusal ws
+unfolding readIntoRefusal
+into-room ws = go (readRefusal ws)
+  where
+    go : (o : Option Refusal) → next o none ≡ o
+    go none = refl
+    go (some why) = refl
+
+-- an answer tells its case
+by-accepted : (o : Option Refusal) (q p : Packet) → readingBy o q ≡ Accepted p → (o ≡ none) × (p ≡ q)
+by-accepted none q p e = (refl, cc)
+by-accepted (some why) q p e = let z : _≡_ {A = ℕ} 0 1 = cc in absurd (omega arith)
+
+by-refused : (o : Option Refusal) (q : Packet) (why : Refusal) → readingBy o q ≡ RefusedReading why → o ≡ some why
+by-refused none q why e = let z : _≡_ {A = ℕ} 0 1 = cc in absurd (omega arith)
+by-refused (some no′) q why e = cc
+
+module _ (ws old : List ℕ) (r : Reading) (n : length old ≡ 248) (er : r ≡ readingIntoOf ws (length old)) where
+  room-by : readIntoRefusal ws (length old) ≡ readRefusal ws
+  room-by = ap (readIntoRefusal ws) n ∙ into-room ws
+
+  into-told : readingBy (readRefusal ws) (packetOf ws) ≡ r
+  unfolding readingIntoOf
+  into-told = sym (er ∙ ap (λ (o : Option Refusal). readingBy o (packetOf ws)) room-by)
+
+  -- accepted: no check refuses, the packet is that of the words, and their record is left
+  pub accepted-is : (p : Packet) → r ≡ Accepted p → (readRefusal ws ≡ none) × (p ≡ packetOf ws) × (readLeaves ws old ≡ readRecord ws)
+  unfolding readLeaves
+  accepted-is p e =
+      let told = by-accepted (readRefusal ws) (packetOf ws) p (into-told ∙ e) in
+      (told .0, told .1, ap (λ (o : Option Refusal). leftBy o (readRecord ws) old) (room-by ∙ told .0))
+
+  -- refused: for that
+  pub refused-is : (why : Refusal) → r ≡ RefusedReading why → readRefusal ws ≡ some why
+  refused-is why e = by-refused (readRefusal ws) (packetOf ws) why (into-told ∙ e)

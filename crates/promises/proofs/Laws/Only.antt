@@ -82,6 +82,44 @@ use Rattle.follower.proofs.Follower.open.Kinds as follower-open-types
 use Rattle.follower.proofs.Follower.open.Reads as follower-open-contract
 use Rattle.follower.proofs.Follower.follow.Kinds as follower-follow-types
 use Rattle.follower.proofs.Follower.follow.Reads as follower-follow-contract
+use Rattle.b40.proofs.pack.Kinds as pack-types
+use Rattle.b40.proofs.pack.Reads as pack-contract
+use Rattle.b40.proofs.unpack.Kinds as unpack-types
+use Rattle.b40.proofs.unpack.Reads as unpack-contract
+use Rattle.lines.proofs.show.Kinds as show-types
+use Rattle.lines.proofs.show.Reads as show-contract
+use Rattle.capi.proofs.ay_word_of.Kinds as ay-word-of-types
+use Rattle.capi.proofs.ay_word_of.Reads as ay-word-of-contract
+use Rattle.capi.proofs.ay_is_sound.Kinds as ay-is-sound-types
+use Rattle.capi.proofs.ay_is_sound.Reads as ay-is-sound-contract
+use Rattle.capi.proofs.ay_checksum.Kinds as ay-checksum-types
+use Rattle.capi.proofs.ay_checksum.Reads as ay-checksum-contract
+use Rattle.capi.proofs.ay_write_packet.Kinds as ay-write-packet-types
+use Rattle.capi.proofs.ay_write_packet.Reads as ay-write-packet-contract
+use Rattle.capi.proofs.ay_read_packet.Kinds as ay-read-packet-types
+use Rattle.capi.proofs.ay_read_packet.Reads as ay-read-packet-contract
+use Rattle.capi.proofs.ay_read_packet_into.Kinds as ay-read-packet-into-types
+use Rattle.capi.proofs.ay_read_packet_into.Reads as ay-read-packet-into-contract
+use Rattle.capi.proofs.ay_repair.Kinds as ay-repair-types
+use Rattle.capi.proofs.ay_repair.Reads as ay-repair-contract
+use Rattle.capi.proofs.ay_record_refusal.Kinds as ay-record-refusal-types
+use Rattle.capi.proofs.ay_record_refusal.Reads as ay-record-refusal-contract
+use Rattle.capi.proofs.ay_pack.Kinds as ay-pack-types
+use Rattle.capi.proofs.ay_pack.Reads as ay-pack-contract
+use Rattle.capi.proofs.ay_unpack.Kinds as ay-unpack-types
+use Rattle.capi.proofs.ay_unpack.Reads as ay-unpack-contract
+use Rattle.capi.proofs.ay_desk_open.Kinds as ay-desk-open-types
+use Rattle.capi.proofs.ay_desk_open.Reads as ay-desk-open-contract
+use Rattle.capi.proofs.ay_desk_edit.Kinds as ay-desk-edit-types
+use Rattle.capi.proofs.ay_desk_edit.Reads as ay-desk-edit-contract
+use Rattle.capi.proofs.ay_desk_undo.Kinds as ay-desk-undo-types
+use Rattle.capi.proofs.ay_desk_undo.Reads as ay-desk-undo-contract
+use Rattle.capi.proofs.ay_desk_send.Kinds as ay-desk-send-types
+use Rattle.capi.proofs.ay_desk_send.Reads as ay-desk-send-contract
+use Rattle.capi.proofs.ay_follower_open.Kinds as ay-follower-open-types
+use Rattle.capi.proofs.ay_follower_open.Reads as ay-follower-open-contract
+use Rattle.capi.proofs.ay_follower_follow.Kinds as ay-follower-follow-types
+use Rattle.capi.proofs.ay_follower_follow.Reads as ay-follower-follow-contract
 
 -- ---- refusal
 
@@ -216,3 +254,66 @@ follower-open κs i a b s t p q = p ∙ sym q
 
 pub follower-follow : OneAnswer 1 follower-follow-types.ps follower-follow-types.r follower-follow-contract.Learnt
 follower-follow κs i a b s t p q = p ∙ sym q
+
+-- ---- b40
+
+pub pack : OneOutcome 2 pack-types.ps pack-types.r (λ κs s. now (s .1 .1 .1 .1 .0)) pack-contract.Learnt
+pack κs i a b s t p q = (p .0 ∙ sym (q .0), p .1 ∙ sym (q .1))
+
+pub unpack : OneOutcome 2 unpack-types.ps unpack-types.r (λ κs s. now (s .1 .0)) unpack-contract.Learnt
+unpack κs i a b s t p q = (p .0 ∙ sym (q .0), p .1 ∙ sym (q .1))
+
+-- ---- lines
+
+pub show : OneAnswer 1 show-types.ps show-types.r show-contract.Learnt
+show κs i a b s t p q = p .0 ∙ sym (q .0)
+
+-- ---- capi
+
+pub ay-word-of : OneAnswer 0 ay-word-of-types.ps ay-word-of-types.r ay-word-of-contract.Learnt
+ay-word-of κs i a b s t p q = p ∙ sym q
+
+pub ay-is-sound : OneAnswer 0 ay-is-sound-types.ps ay-is-sound-types.r ay-is-sound-contract.Learnt
+ay-is-sound κs i a b s t p q = p ∙ sym q
+
+pub ay-checksum : OneAnswer 1 ay-checksum-types.ps ay-checksum-types.r ay-checksum-contract.Learnt
+ay-checksum κs i a b s t p q = p ∙ sym q
+
+pub ay-write-packet : OneOutcome 2 ay-write-packet-types.ps ay-write-packet-types.r (λ κs s. now (s .1 .1 .1 .0)) ay-write-packet-contract.Learnt
+ay-write-packet κs i a b s t p q = (p .0 ∙ sym (q .0), p .1 ∙ sym (q .1))
+
+pub ay-read-packet : OneAnswer 1 ay-read-packet-types.ps ay-read-packet-types.r ay-read-packet-contract.Learnt
+ay-read-packet κs i a b s t p q = p ∙ sym q
+
+pub ay-read-packet-into : OneOutcome 2 ay-read-packet-into-types.ps ay-read-packet-into-types.r (λ κs s. now (s .1 .0)) ay-read-packet-into-contract.Learnt
+ay-read-packet-into κs i a b s t p q = (p .0 ∙ sym (q .0), p .1 ∙ sym (q .1))
+
+pub ay-repair : OneOutcome 2 ay-repair-types.ps ay-repair-types.r (λ κs s. now (s .1 .0)) ay-repair-contract.Learnt
+ay-repair κs i a b s t p q = (p .0 ∙ sym (q .0), p .1 ∙ sym (q .1))
+
+pub ay-record-refusal : OneAnswer 1 ay-record-refusal-types.ps ay-record-refusal-types.r ay-record-refusal-contract.Learnt
+ay-record-refusal κs i a b s t p q = p ∙ sym q
+
+pub ay-pack : OneOutcome 2 ay-pack-types.ps ay-pack-types.r (λ κs s. now (s .1 .1 .1 .1 .0)) ay-pack-contract.Learnt
+ay-pack κs i a b s t p q = (p .0 ∙ sym (q .0), p .1 ∙ sym (q .1))
+
+pub ay-unpack : OneOutcome 2 ay-unpack-types.ps ay-unpack-types.r (λ κs s. now (s .1 .0)) ay-unpack-contract.Learnt
+ay-unpack κs i a b s t p q = (p .0 ∙ sym (q .0), p .1 ∙ sym (q .1))
+
+pub ay-desk-open : OneAnswer 0 ay-desk-open-types.ps ay-desk-open-types.r ay-desk-open-contract.Learnt
+ay-desk-open κs i a b s t p q = p ∙ sym q
+
+pub ay-desk-edit : OneAnswer 1 ay-desk-edit-types.ps ay-desk-edit-types.r ay-desk-edit-contract.Learnt
+ay-desk-edit κs i a b s t p q = p ∙ sym q
+
+pub ay-desk-undo : OneAnswer 0 ay-desk-undo-types.ps ay-desk-undo-types.r ay-desk-undo-contract.Learnt
+ay-desk-undo κs i a b s t p q = p ∙ sym q
+
+pub ay-desk-send : OneOutcome 1 ay-desk-send-types.ps ay-desk-send-types.r (λ κs s. now (s .1 .0)) ay-desk-send-contract.Learnt
+ay-desk-send κs i a b s t p q = (p .0 ∙ sym (q .0), p .1 ∙ sym (q .1))
+
+pub ay-follower-open : OneAnswer 0 ay-follower-open-types.ps ay-follower-open-types.r ay-follower-open-contract.Learnt
+ay-follower-open κs i a b s t p q = p ∙ sym q
+
+pub ay-follower-follow : OneAnswer 1 ay-follower-follow-types.ps ay-follower-follow-types.r ay-follower-follow-contract.Learnt
+ay-follower-follow κs i a b s t p q = p ∙ sym q

@@ -53,6 +53,14 @@ use Rattle.packet.proofs.write_packet.Kinds as write-packet-types
 use Rattle.packet.proofs.write_packet.Reads as write-packet-contract
 use Rattle.packet.proofs.read_packet_into.Kinds as read-packet-into-types
 use Rattle.packet.proofs.read_packet_into.Reads as read-packet-into-contract
+use Rattle.b40.specs.Packing.{packLeaves}
+use Rattle.b40.specs.Unpacking.{unpackLeaves, refusalIn as refusalInField}
+use Rattle.b40.proofs.Laws.Packing.{refusal-said as pack-said}
+use Rattle.b40.proofs.Laws.Unpacking.{refusal-said as unpack-said}
+use Rattle.b40.proofs.pack.Kinds as pack-types
+use Rattle.b40.proofs.pack.Reads as pack-contract
+use Rattle.b40.proofs.unpack.Kinds as unpack-types
+use Rattle.b40.proofs.unpack.Reads as unpack-contract
 use Rattle.desk.proofs.Desk.send.Kinds as send-types
 use Rattle.desk.proofs.Desk.send.Reads as send-contract
 
@@ -78,6 +86,14 @@ write-packet κs i a s p (why, e) = p .1 ∙ kept _ why _ _ (sym (write-said (i 
 pub read-packet-into : RefusedKeeps 2 read-packet-into-types.ps read-packet-into-types.r (λ κs a. (why : Refusal) × (refusalInReading a ≡ some why)) (λ κs i. now (i .1 .0)) (λ κs s. now (s .1 .0)) read-packet-into-contract.Learnt
 unfolding readLeaves
 read-packet-into κs i a s p (why, e) = p .1 ∙ kept _ why _ _ (sym (read-said (now (i .0)) (length (now (i .1 .0)))) ∙ ap refusalInReading (sym (p .0)) ∙ e)
+
+pub field-pack : RefusedKeeps 2 pack-types.ps pack-types.r (λ κs a. (why : Refusal) × (refusalInWriting a ≡ some why)) (λ κs i. now (i .1 .1 .1 .1 .0)) (λ κs s. now (s .1 .1 .1 .1 .0)) pack-contract.Learnt
+unfolding packLeaves
+field-pack κs i a s p (why, e) = p .1 ∙ kept _ why _ _ (sym (pack-said (i .1 .0) (i .1 .1 .0) (now (i .1 .1 .1 .0)) (length (now (i .1 .1 .1 .1 .0)))) ∙ ap refusalInWriting (sym (p .0)) ∙ e)
+
+pub field-unpack : RefusedKeeps 2 unpack-types.ps unpack-types.r (λ κs a. (why : Refusal) × (refusalInField a ≡ some why)) (λ κs i. now (i .1 .0)) (λ κs s. now (s .1 .0)) unpack-contract.Learnt
+unfolding unpackLeaves
+field-unpack κs i a s p (why, e) = p .1 ∙ kept _ why _ _ (sym (unpack-said (now (i .0)) (length (now (i .1 .0)))) ∙ ap refusalInField (sym (p .0)) ∙ e)
 
 -- a check that an answer tells
 checked-said : (o : Option Refusal) (a : Checked) (why : Refusal) → a ≡ checkedOf o → refusalIn a ≡ some why → o ≡ some why

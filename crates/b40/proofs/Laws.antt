@@ -1,0 +1,7 @@
+pub mod Bits
+pub mod Back
+pub mod Places
+pub mod Packing
+pub mod Unpacking
+pub mod RoundTrip
+pub mod Values

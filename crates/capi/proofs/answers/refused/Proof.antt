@@ -1,0 +1,11 @@
+-- `capi::answers::refused` meets its contract.
+-- Assumes nothing.
+use borrow.Author.Needs.{needs}
+use Rattle.capi.proofs.answers.refused.Statement.{statement}
+use Rattle.capi.proofs.answers.refused.Tie as tie
+
+returns : tie.Need-returns
+returns c = rw (c .number .ensures)
+
+pub refused-spec : {M : Type 1} → statement M
+refused-spec = tie.close (tie.spec (λ c κs. search needs) returns)

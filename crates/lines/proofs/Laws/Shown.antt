@@ -1,0 +1,103 @@
+-- The lines, written part by part.
+-- Assumes nothing.
+use mathlib.Core.Path.{_≡_, refl, sym, ap, _∙_}
+use mathlib.Core.List.{List, [], _∷_, _++_}
+use mathlib.Core.Option.{Option, none, some}
+use Prim.Native.Nat.{ℕ, suc, _+_, _-_, _≤_, _<_}
+use native.Mathlib.Numerals.{add-one}
+use native.Mathlib.Omega.{arith}
+use Rattle.refusal.specs.Number.{numberOf}
+use Rattle.refusal.specs.declared.Refusal.{Refusal}
+use Rattle.record.specs.Stored.{itemLent}
+use Rattle.packet.specs.declared.Packet.{Packet}
+use Rattle.packet.specs.declared.Reading.{Reading}
+use Rattle.packet.specs.declared.Reading.the-variants.{Accepted, Refused}
+use Rattle.packet.specs.Answer.{readingIntoOf, readLeaves}
+use Rattle.packet.proofs.Laws.Answer.{accepted-is, refused-is}
+use Rattle.b40.specs.declared.Head.{Head}
+use Rattle.b40.specs.declared.Unpacked.{Unpacked}
+use Rattle.b40.specs.declared.Unpacked.the-variants.{Done, Refused as NotDone}
+use Rattle.b40.specs.Field.{wordsOf}
+use Rattle.b40.specs.Unpacking.{unpackRefusal, headOf, unpackedBy, unpackedOf, unpackLeaves}
+use lib.ListN.{length}
+use Rattle.lines.specs.Text.{decimal, hexBytes, blank, written}
+use Rattle.lines.specs.Shown.{space, newline, refusedWord, threeLine, refusedLine, fieldLine, packetLine, itemLine, itemLines, packetLines, fieldLines, shown}
+use Rattle.lines.specs.declared.page.Page.{Page}
+use Rattle.lines.proofs.Laws.Page.{written-append, Sized, blank-sized, written-sized}
+
+-- a line of three numbers, in seven parts
+pub three-parts : (p0 p1 p2 p3 p4 p5 p6 p7 : Page) (word : List ℕ) (a b c : ℕ) → p1 ≡ written p0 word → p2 ≡ written p1 (decimal a) → p3 ≡ written p2 (space ∷ [])
+    → p4 ≡ written p3 (decimal b) → p5 ≡ written p4 (space ∷ []) → p6 ≡ written p5 (decimal c) → p7 ≡ written p6 (newline ∷ []) → p7 ≡ written p0 (threeLine word a b c)
+unfolding threeLine
+three-parts p0 p1 p2 p3 p4 p5 p6 p7 word a b c e1 e2 e3 e4 e5 e6 e7 = rw (e7, e6, e5, e4, e3, e2, e1) (simp written-append)
+
+-- a refusal, in five
+pub refused-parts : (p0 p1 p2 p3 p4 p5 : Page) (why : Refusal) (n : ℕ) → n ≡ numberOf (why .reason) → p1 ≡ written p0 refusedWord → p2 ≡ written p1 (decimal n) → p3 ≡ written p2 (space ∷ [])
+    → p4 ≡ written p3 (decimal (why .place)) → p5 ≡ written p4 (newline ∷ []) → p5 ≡ written p0 (refusedLine why)
+unfolding refusedLine
+refused-parts p0 p1 p2 p3 p4 p5 why n en e1 e2 e3 e4 e5 = rw (e5, e4, e3, e2, e1, en) (simp written-append)
+
+-- an item, in three
+pub item-parts : (p0 p1 p2 p3 : Page) (rec part : List ℕ) (number : ℕ) → p1 ≡ written p0 (decimal number) → part ≡ itemLent number rec → p2 ≡ written p1 (hexBytes part)
+    → p3 ≡ written p2 (newline ∷ []) → p3 ≡ written p0 (itemLine rec number)
+unfolding itemLine
+item-parts p0 p1 p2 p3 rec part number e1 ep e2 e3 = rw (e3, e2, ep, e1) (simp written-append)
+
+-- the item at n, and then the rest of the twelve
+next-item : (p : Page) (rec : List ℕ) (k n : ℕ) → written p (itemLines (suc k) n rec) ≡ written (written p (itemLine rec n)) (itemLines k (suc n) rec)
+unfolding itemLines
+next-item p rec k n = written-append p (itemLine rec n) _
+
+pub items-step : (p : Page) (rec : List ℕ) (n : ℕ) → n ≤ 12 → written p (itemLines (13 - n) n rec) ≡ written (written p (itemLine rec n)) (itemLines (13 - (n + 1)) (n + 1) rec)
+items-step p rec n h =
+    let e : 13 - n ≡ suc (12 - n) = omega arith in
+    let f : 13 - (n + 1) ≡ 12 - n = omega arith in
+    rw (e, f, add-one n) (next-item p rec (12 - n) n)
+
+pub items-end : (p : Page) (rec : List ℕ) (n : ℕ) → 12 < n → written p (itemLines (13 - n) n rec) ≡ p
+unfolding itemLines written
+items-end p rec n h = let e : 13 - n ≡ 0 = omega arith in rw e
+
+-- ---- a packet, by what reading it answered and left
+
+module _ (h : Head) (ws old : List ℕ) (r : Reading) (n : length old ≡ 248) (er : r ≡ readingIntoOf ws (length old)) where
+  pub packet-shown : (p : Packet) (rec : List ℕ) (p0 p1 p2 : Page) → r ≡ Accepted p → rec ≡ readLeaves ws old → p0 ≡ written blank (fieldLine (h .yc) (h .line) (h .offset))
+      → p1 ≡ written p0 (packetLine p) → p2 ≡ written p1 (itemLines 12 1 rec) → p2 ≡ written blank (packetLines h ws)
+  unfolding packetLines
+  packet-shown p rec p0 p1 p2 e er′ e0 e1 e2 =
+      let A = accepted-is ws old r n er p e in
+      rw (A .0, e2, e1, e0, er′ ∙ A .2, A .1) (simp written-append)
+
+  pub packet-refused : (why : Refusal) (p0 : Page) → r ≡ Refused why → p0 ≡ written blank (refusedLine why) → p0 ≡ written blank (packetLines h ws)
+  unfolding packetLines
+  packet-refused why p0 e e0 = rw (refused-is ws old r n er why e) e0
+
+-- ---- a field, by what unpacking it answered and left
+
+done-by : (o : Option Refusal) (q h : Head) → unpackedBy o q ≡ Done h → (o ≡ none) × (h ≡ q)
+done-by none q h e = (refl, cc)
+done-by (some why) q h e = let z : _≡_ {A = ℕ} 0 1 = cc in absurd (omega arith)
+
+refused-by : (o : Option Refusal) (q : Head) (why : Refusal) → unpackedBy o q ≡ NotDone why → o ≡ some why
+refused-by none q why e = let z : _≡_ {A = ℕ} 0 1 = cc in absurd (omega arith)
+refused-by (some no′) q why e = cc
+
+module _ (field old : List ℕ) (u : Unpacked) (n : length old ≡ 262) (eu : u ≡ unpackedOf field (length old)) where
+  unpack-told : unpackedBy (unpackRefusal field 262) (headOf field) ≡ u
+  unfolding unpackedOf
+  unpack-told = sym (eu ∙ ap (λ (k : ℕ). unpackedBy (unpackRefusal field k) (headOf field)) n)
+
+  pub field-shown : (h : Head) (words : List ℕ) (p : Page) → u ≡ Done h → words ≡ unpackLeaves field old → p ≡ written blank (packetLines h words) → p ≡ shown field
+  unfolding shown fieldLines packetLines unpackLeaves
+  field-shown h words p e ew ep =
+      let told = done-by (unpackRefusal field 262) (headOf field) h (unpack-told ∙ e) in
+      let left : words ≡ wordsOf field = ew ∙ rw (n, told .0) in
+      ep ∙ rw (told .0, told .1, left)
+
+  pub field-refused : (why : Refusal) (p : Page) → u ≡ NotDone why → p ≡ written blank (refusedLine why) → p ≡ shown field
+  unfolding shown fieldLines
+  field-refused why p e ep = rw (refused-by (unpackRefusal field 262) (headOf field) why (unpack-told ∙ e)) ep
+
+pub shown-sized : (field : List ℕ) (p : Page) → p ≡ shown field → (p ≡ shown field) × (length (p .bytes) ≡ 256) × (p .length ≤ 256)
+unfolding shown
+shown-sized field p e = let s : Sized p = rw e (written-sized blank (fieldLines field) blank-sized) in (e, s .places, s .within)

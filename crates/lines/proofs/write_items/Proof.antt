@@ -1,0 +1,46 @@
+-- `lines::write_items` meets its contract. The loop's invariant: what is to be written is the rest of the items, on what the page is by now. The
+-- measure is how many are left.
+-- Assumes nothing.
+use mathlib.Core.Path.{_≡_, refl, sym, ap, _∙_}
+use Prim.Native.Nat.{_+_, _≤_, _-_}
+use native.Mathlib.Omega.{arith}
+use borrow.Author.Needs.{needs}
+use Rattle.lines.specs.Text.{written}
+use Rattle.lines.specs.Shown.{itemLines}
+use Rattle.lines.specs.declared.page.Page.{Page}
+use Rattle.lines.proofs.Laws.Shown.{items-step, items-end}
+use Rattle.lines.proofs.write_items.Statement.{statement}
+use Rattle.lines.proofs.write_items.Tie as tie
+
+abbrev Inv-loop : tie.InvT-loop
+Inv-loop rec out₀ number₀ out number = (number ≤ 13) × (written out₀ (itemLines 12 1 rec) ≡ written out (itemLines (13 - number) number rec))
+
+abbrev μ-loop : tie.MeasureT-loop
+μ-loop rec out₀ number₀ out number = 13 - number
+
+loop-holds : tie.Need-loop-holds Inv-loop μ-loop
+loop-holds c = (omega arith, refl)
+
+loop-again : tie.Need-loop-again Inv-loop μ-loop
+loop-again c =
+    let l = c .before .before .loop in
+    let rec = c .before .before .before .before .args .rec .now in
+    (omega arith, l .inv .1 ∙ items-step (l .out) rec (l .number) (omega arith) ∙ ap (λ (p : Page). written p (itemLines (13 - (l .number + 1)) (l .number + 1) rec)) (sym (c .write-item .ensures)))
+
+returns : tie.Need-returns Inv-loop μ-loop
+returns c =
+    let l = c .before .loop in
+    sym (l .inv .1 ∙ items-end (l .out) (c .before .before .before .args .rec .now) (l .number) (omega arith))
+
+pub write-items-spec : {M : Type 1} → statement M
+write-items-spec =
+    tie.close
+    (tie.spec
+    Inv-loop
+    μ-loop
+    loop-holds
+    (λ c κs. search needs)
+    (λ c. search needs)
+    (λ c. search needs)
+    loop-again
+    returns)

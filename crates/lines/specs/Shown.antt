@@ -1,0 +1,82 @@
+-- The lines that are printed of a field: `refused N P` alone, or the field's head, the packet, and each item's record bytes.
+-- Assumes nothing.
+use mathlib.Core.Bool.{Bool, cond}
+use mathlib.Core.List.{List, [], _∷_, _++_}
+use mathlib.Core.Option.{Option, none, some}
+use Prim.Native.Nat.{ℕ, zero, suc}
+use Rattle.refusal.specs.Chain.{next}
+use Rattle.refusal.specs.Number.{numberOf}
+use Rattle.refusal.specs.declared.Refusal.{Refusal}
+use Rattle.record.specs.Stored.{itemLent}
+use Rattle.packet.specs.declared.Packet.{Packet}
+use Rattle.packet.specs.Reading.{readRefusal, readRecord}
+use Rattle.packet.specs.Answer.{packetOf}
+use Rattle.b40.specs.declared.Head.{Head}
+use Rattle.b40.specs.Field.{wordsOf}
+use Rattle.b40.specs.Unpacking.{unpackRefusal, headOf}
+use Rattle.lines.specs.declared.page.Page.{Page}
+use Rattle.lines.specs.Text.{decimal, hexBytes, blank, written}
+
+-- a space, and the end of a line
+abbrev pub space : ℕ
+space = 0x20
+
+abbrev pub newline : ℕ
+newline = 0x0A
+
+-- the three words that lines begin with, each with its space: refused, field, packet
+unfoldable pub refusedWord : List ℕ
+refusedWord = 0x72 ∷ 0x65 ∷ 0x66 ∷ 0x75 ∷ 0x73 ∷ 0x65 ∷ 0x64 ∷ space ∷ []
+
+unfoldable pub fieldWord : List ℕ
+fieldWord = 0x66 ∷ 0x69 ∷ 0x65 ∷ 0x6C ∷ 0x64 ∷ space ∷ []
+
+unfoldable pub packetWord : List ℕ
+packetWord = 0x70 ∷ 0x61 ∷ 0x63 ∷ 0x6B ∷ 0x65 ∷ 0x74 ∷ space ∷ []
+
+-- a line of three numbers, of two
+unfoldable pub threeLine : List ℕ → ℕ → ℕ → ℕ → List ℕ
+threeLine word a b c = word ++ decimal a ++ (space ∷ []) ++ decimal b ++ (space ∷ []) ++ decimal c ++ (newline ∷ [])
+
+unfoldable pub refusedLine : Refusal → List ℕ
+refusedLine why = refusedWord ++ decimal (numberOf (why .reason)) ++ (space ∷ []) ++ decimal (why .place) ++ (newline ∷ [])
+
+-- yes is 1 and no is 0
+abbrev pub flagOf : Bool → ℕ
+flagOf b = cond b 1 0
+
+-- Y/C, line, offset
+unfoldable pub fieldLine : Bool → ℕ → ℕ → List ℕ
+fieldLine yc line offset = threeLine fieldWord (flagOf yc) line offset
+
+-- correction, CI, fixed
+unfoldable pub packetLine : Packet → List ℕ
+packetLine p = threeLine packetWord (flagOf (p .correction)) (p .ci) (p .fixed)
+
+-- an item's number and its record bytes
+unfoldable pub itemLine : List ℕ → ℕ → List ℕ
+itemLine rec number = decimal number ++ hexBytes (itemLent number rec) ++ (newline ∷ [])
+
+-- so many items, from the given one on
+unfoldable pub itemLines : ℕ → ℕ → List ℕ → List ℕ
+itemLines zero number rec = []
+itemLines (suc k) number rec = itemLine rec number ++ itemLines k (suc number) rec
+
+-- ---- what is printed of a field
+
+-- the refusal alone, or the head, the packet and the twelve items
+abbrev pub linesBy : Option Refusal → Head → List ℕ → List ℕ
+linesBy none h words = fieldLine (h .yc) (h .line) (h .offset) ++ packetLine (packetOf words) ++ itemLines 12 1 (readRecord words)
+linesBy (some why) h words = refusedLine why
+
+-- of the words of a packet
+unfoldable pub packetLines : Head → List ℕ → List ℕ
+packetLines h words = linesBy (readRefusal words) h words
+
+-- of a field: 25 and 26, and then what the packet is refused for
+unfoldable pub fieldLines : List ℕ → List ℕ
+fieldLines field = linesBy (next (unpackRefusal field 262) (readRefusal (wordsOf field))) (headOf field) (wordsOf field)
+
+-- on a page
+unfoldable pub shown : List ℕ → Page
+shown field = written blank (fieldLines field)

@@ -1,0 +1,180 @@
+// A day of a desk and a follower over a damaged line: edits, undos, sends, drops, repeats and three bad words in each delivery.
+use desk::Desk;
+use follower::Follower;
+use std::num::wrapping_add_u32;
+
+// Desk and follower, what is true of the line, and at how many deliveries the two agreed.
+pub(crate) struct Day {
+    pub desk: Desk,
+    pub follower: Follower,
+    pub chance: u64,
+    pub gap: u32,
+    pub begun: bool,
+    pub sent: u32,
+    pub delivered: u32,
+    pub repeated: u32,
+    pub missed: u32,
+    pub agreed: u32,
+}
+
+// The next of a run of numbers that look like chance.
+fn next(x: u64) -> u64 {
+    let a = x ^ (x << 13);
+    let b = a ^ (a >> 7);
+    b ^ (b << 17)
+}
+
+// Puts a word at a place, where there is one.
+pub(crate) fn change(words: &mut [u16], at: usize, word: u16) {
+    if at < words.len() {
+        words[at] = word;
+    }
+}
+
+// Changes three protected words to any ten-bit values.
+fn damage(words: &mut [u16], chance: u64) {
+    change(
+        words,
+        (7 + chance % 254) as usize,
+        (chance / 7 % 1024) as u16,
+    );
+    change(
+        words,
+        (7 + chance / 254 % 254) as usize,
+        (chance / 11 % 1024) as u16,
+    );
+    change(
+        words,
+        (7 + chance / 64516 % 254) as usize,
+        (chance / 13 % 1024) as u16,
+    );
+}
+
+// An edit of the sound mode or of the triggers, or an undo.
+fn turned(desk: Desk, chance: u64) -> Desk {
+    if chance % 3 == 0 {
+        let mode = [(chance / 3 % 27) as u8];
+        let turn = desk.edit(6, &mode);
+        return turn.desk;
+    }
+    if chance % 3 == 1 {
+        let triggers = [
+            (chance / 5 % 256) as u8,
+            (chance / 7 % 256) as u8,
+            (chance / 9 % 256) as u8,
+            (chance / 17 % 256) as u8,
+        ];
+        let turn = desk.edit(9, &triggers);
+        return turn.desk;
+    }
+    let turn = desk.undo();
+    turn.desk
+}
+
+// One if the two agree, with these true counts.
+fn agrees(desk: Desk, follower: Follower, missed: u32, repeated: u32) -> u32 {
+    let bytes = desk.bytes;
+    let rec = follower.rec;
+    if check::same(&bytes, &rec)
+        & (follower.missed == missed)
+        & (follower.repeated == repeated)
+        & (follower.refused == 0)
+    {
+        return 1;
+    }
+    0
+}
+
+// The packet arrives, damaged; `again` is 1 where it is a repeat.
+fn arrives(day: Day, words: [u16; 262], again: u32) -> Day {
+    let chance = next(day.chance);
+    let mut damaged = words;
+    damage(&mut damaged, chance);
+    let before = day.follower;
+    let followed = before.follow(&damaged);
+    let follower = followed.follower;
+    let desk = day.desk;
+    let repeated = wrapping_add_u32(day.repeated, again);
+    Day {
+        desk,
+        follower,
+        chance,
+        gap: 0,
+        begun: true,
+        sent: day.sent,
+        delivered: wrapping_add_u32(day.delivered, 1),
+        repeated,
+        missed: day.missed,
+        agreed: wrapping_add_u32(day.agreed, agrees(desk, follower, day.missed, repeated)),
+    }
+}
+
+// A turn at the desk, a send, and what the line makes of it.
+fn tick(day: Day) -> Day {
+    let chance = next(day.chance);
+    let before = day.desk;
+    let desk = turned(before, chance);
+    let mut words = [0u16; 262];
+    let sending = desk.send(&mut words);
+    let after = sending.desk;
+    let sent = wrapping_add_u32(day.sent, 1);
+    let follower = day.follower;
+    if (chance / 1000 % 4 == 0) & (day.gap < 14) {
+        let lost = if day.begun { 1 } else { 0 };
+        return Day {
+            desk: after,
+            follower,
+            chance,
+            gap: wrapping_add_u32(day.gap, 1),
+            begun: day.begun,
+            sent,
+            delivered: day.delivered,
+            repeated: day.repeated,
+            missed: wrapping_add_u32(day.missed, lost),
+            agreed: day.agreed,
+        };
+    }
+    let once = arrives(
+        Day {
+            desk: after,
+            follower,
+            chance,
+            gap: day.gap,
+            begun: day.begun,
+            sent,
+            delivered: day.delivered,
+            repeated: day.repeated,
+            missed: day.missed,
+            agreed: day.agreed,
+        },
+        words,
+        0,
+    );
+    if chance / 5000 % 3 == 0 {
+        return arrives(once, words, 1);
+    }
+    once
+}
+
+// Two thousand packets.
+pub(crate) fn run() -> Day {
+    let mut day = Day {
+        desk: Desk::open(true),
+        follower: Follower::open(),
+        chance: 20261115,
+        gap: 0,
+        begun: false,
+        sent: 0,
+        delivered: 0,
+        repeated: 0,
+        missed: 0,
+        agreed: 0,
+    };
+    let mut n: usize = 0;
+    while n < 2000 {
+        let next = tick(day);
+        day = next;
+        n += 1;
+    }
+    day
+}

@@ -1,0 +1,37 @@
+// Runs what is compared and not proved: parities and repairs that another program worked out, three changed words at both ends of the
+// codeword, the end of the history, and a day of a desk and a follower over a damaged line. Prints what was compared.
+mod day;
+mod desk_cases;
+mod outside;
+
+// A line: a word and a number.
+fn line(word: &[u8], n: u64) {
+    io::write_all(1, word);
+    io::print_decimal(1, n);
+    io::write_all(1, b"\n");
+}
+
+fn main() {
+    line(b"parities equal, of 200: ", outside::parities());
+    line(b"deliveries equal, of 400: ", outside::deliveries());
+    line(
+        b"fixed, first three protected words changed: ",
+        desk_cases::fixed_with(7, 8, 9),
+    );
+    line(
+        b"fixed, last three protected words changed: ",
+        desk_cases::fixed_with(258, 259, 260),
+    );
+    let undone = desk_cases::undos_after(33);
+    line(b"undos after 33 edits: ", undone.count);
+    line(b"then refused: ", undone.number);
+    let day = day::run();
+    line(b"a day, packets sent: ", day.sent as u64);
+    line(b"delivered: ", day.delivered as u64);
+    line(b"of them repeats: ", day.repeated as u64);
+    line(b"missed: ", day.missed as u64);
+    line(
+        b"deliveries at which desk and follower agreed: ",
+        day.agreed as u64,
+    );
+}

@@ -1,0 +1,45 @@
+// The outside vectors, from standard input.
+
+// Is the parity of the first 248 bytes the last six?
+fn parity_equal(block: [u8; 254]) -> bool {
+    let parity = rs::parity(&block[0..248]);
+    check::same(&parity, &block[248..254])
+}
+
+// How many of 200 parities are equal.
+pub(crate) fn parities() -> u64 {
+    let mut block = [0u8; 254];
+    let mut equal: u64 = 0;
+    let mut n: usize = 0;
+    while n < 200 {
+        let got = io::read_full(0, &mut block);
+        if (got == 254) & parity_equal(block) {
+            equal = std::num::wrapping_add_u64(equal, 1);
+        }
+        n += 1;
+    }
+    equal
+}
+
+// Is the block repaired as the vector has it, or left where the vector says none?
+fn delivery_equal(vector: [u8; 509]) -> bool {
+    let mut block = [0u8; 254];
+    bytes::copy(&vector[1..255], &mut block);
+    let found = search::repair(&mut block);
+    (found == (vector[0] == 1)) & check::same(&block, &vector[255..509])
+}
+
+// How many of 400 deliveries are equal.
+pub(crate) fn deliveries() -> u64 {
+    let mut vector = [0u8; 509];
+    let mut equal: u64 = 0;
+    let mut n: usize = 0;
+    while n < 400 {
+        let got = io::read_full(0, &mut vector);
+        if (got == 509) & delivery_equal(vector) {
+            equal = std::num::wrapping_add_u64(equal, 1);
+        }
+        n += 1;
+    }
+    equal
+}

@@ -1,0 +1,228 @@
+/* The calls of Aynirukh for C99: the control data packet of ARIB STD-B39, its record, the sender's desk and the receiver's follower.
+ *
+ * Each call is proved to give the answer that its contract in crates/capi/src/lib.rt names, for every input that follows three rules,
+ * which are the caller's to keep and which no call can test:
+ *   - a pointer and the length behind it, counted in elements, are one run of memory that may be read, and written where it is not
+ *     const; the pointer is aligned and is not null, even where the length is 0;
+ *   - a buffer that is written overlaps no other buffer of the same call;
+ *   - a bool is true or false, also the one in an AyDesk or an AyFollower.
+ * No call keeps a pointer, allocates, or waits. A desk and a follower are plain values, handed in and handed back: keep the one that
+ * comes back.
+ *
+ * number is 0 where the call is done, else the refusal's number, and place says where (the first byte of the item for 11 to 14, else 0).
+ * A refused call leaves its buffers and the desk as they were, and what stands beside number and place is 0; a follower counts the
+ * refusal and changes nothing else.
+ *
+ *    No.  given when
+ *     1   not 262 words
+ *     2   a word over 1,023
+ *     3   the packet does not begin 0x000, 0x3FF, 0x3FF
+ *     4   DID is not 0x25F, or SDID is not 0x1FE
+ *     5   the count word is not 0x2FF
+ *     6   the header is not sound, or its b6 to b4 are not zero
+ *     7   correction off: a data word is not sound
+ *     8   correction off: one of the last six words is not 0x200
+ *     9   correction on: no codeword within three bytes
+ *    10   the checksum word is not that of the words as they are read
+ *    11   item 1, station code        breaks its rule
+ *    12   item 2, time                breaks its rule
+ *    13   item 3 or 4, picture mode   breaks its rule
+ *    14   item 6 or 7, sound mode     breaks its rule
+ *    20   no such item
+ *    21   another number of bytes or words than the call takes
+ *    22   no step left to undo
+ *    23   the room lent for the answer has not the exact size
+ *    24   the desk's record breaks an item's rule
+ *    25   a field of other than 328 bytes
+ *    26   a field's first six bits are not zero, its line is not 1 to 1,125, or its offset is over 2,199
+ *    27   an index CI over 15
+ */
+#ifndef AYNIRUKH_H
+#define AYNIRUKH_H
+
+#include <stdbool.h>
+#include <stddef.h>
+#include <stdint.h>
+
+#ifdef __cplusplus
+extern "C" {
+#endif
+
+#define AY_PACKET_WORDS 262
+#define AY_PROTECTED_WORDS 254
+#define AY_RECORD_BYTES 248
+#define AY_FIELD_BYTES 328
+#define AY_HISTORY 32
+#define AY_STEP_BYTES 9
+
+/* The numbers. */
+enum {
+    AY_DONE = 0,
+    AY_LENGTH = 1,
+    AY_WIDE = 2,
+    AY_FLAG = 3,
+    AY_KIND = 4,
+    AY_COUNT = 5,
+    AY_HEADER = 6,
+    AY_PARITY = 7,
+    AY_FILL = 8,
+    AY_BEYOND_REPAIR = 9,
+    AY_CHECKSUM = 10,
+    AY_STATION = 11,
+    AY_TIME = 12,
+    AY_PICTURE = 13,
+    AY_SOUND = 14,
+    AY_ITEM = 20,
+    AY_SIZE = 21,
+    AY_NOTHING_TO_UNDO = 22,
+    AY_ROOM = 23,
+    AY_BROKEN_DESK = 24,
+    AY_FIELD_LENGTH = 25,
+    AY_FIELD_HEAD = 26,
+    AY_INDEX = 27
+};
+
+/* The kinds of an accepted packet; AY_NONE where it is refused. */
+enum { AY_NONE = 0, AY_FIRST = 1, AY_NEXT = 2, AY_REPEAT = 3, AY_CONFLICT = 4 };
+
+/* Done or refused. */
+typedef struct {
+    uint8_t number;
+    uint8_t place;
+} AyAnswer;
+
+/* The accepted packet: is correction on, its index CI, and how many protected words' ten bits changed. */
+typedef struct {
+    uint8_t number;
+    uint8_t place;
+    bool correction;
+    uint8_t ci;
+    uint8_t fixed;
+} AyPacket;
+
+/* How many words' ten bits changed. */
+typedef struct {
+    uint8_t number;
+    uint8_t place;
+    uint8_t fixed;
+} AyRepaired;
+
+/* What stands in a field before its words. */
+typedef struct {
+    uint8_t number;
+    uint8_t place;
+    bool yc;
+    uint16_t line;
+    uint16_t offset;
+} AyField;
+
+/* One step of a desk's history: the item, and the bytes that it had before, with zeros behind them. */
+typedef struct {
+    uint8_t item;
+    uint8_t old[AY_STEP_BYTES];
+} AyStep;
+
+/* The record's bytes, is correction on, the next packet's CI, and the first count of the steps, the oldest first. */
+typedef struct {
+    uint8_t bytes[AY_RECORD_BYTES];
+    bool correction;
+    uint8_t ci;
+    AyStep steps[AY_HISTORY];
+    uint8_t count;
+} AyDesk;
+
+/* The desk handed back, and the answer. */
+typedef struct {
+    AyDesk desk;
+    uint8_t number;
+    uint8_t place;
+} AyTurn;
+
+/* Has a packet been accepted, the record and the CI of the latest one, and the counts, which stop at 4,294,967,295. */
+typedef struct {
+    bool started;
+    uint8_t rec[AY_RECORD_BYTES];
+    uint8_t ci;
+    uint32_t accepted;
+    uint32_t repeated;
+    uint32_t conflicting;
+    uint32_t missed;
+    uint32_t refused;
+} AyFollower;
+
+/* The follower handed back, the answer, and what the packet brought: its kind, CI, fixed words, the packets missed before it, and the
+ * triggers that it sets, Q1 in bit 0 to Q32 in bit 31. */
+typedef struct {
+    AyFollower follower;
+    uint8_t number;
+    uint8_t place;
+    uint8_t kind;
+    uint8_t ci;
+    uint8_t fixed;
+    uint8_t missed;
+    uint32_t onsets;
+} AyFollowed;
+
+/* ---- words */
+
+/* The ten-bit word that carries a byte. Refuses nothing. */
+uint16_t ay_word_of(uint8_t byte);
+
+/* Whether b8 and b9 are what b0 to b7 call for, and the word is at most 1,023. Refuses nothing. */
+bool ay_is_sound(uint16_t word);
+
+/* The checksum word of any number of words. Refuses nothing. */
+uint16_t ay_checksum(const uint16_t *words, size_t words_len);
+
+/* ---- packet and record */
+
+/* Writes the 262 words of the bytes' record, with CI 0 to 15 and with or without correction. Refuses 21, 27, 11 to 14, 23. */
+AyAnswer ay_write_packet(bool correction, uint8_t ci, const uint8_t *bytes, size_t bytes_len, uint16_t *out, size_t out_len);
+
+/* Reads 262 words: correction bit, CI and fixed words. Refuses 1 to 14. */
+AyPacket ay_read_packet(const uint16_t *words, size_t words_len);
+
+/* Reads 262 words, and leaves their record of 248 bytes in out. Refuses 1 to 14, 23. */
+AyPacket ay_read_packet_into(const uint16_t *words, size_t words_len, uint8_t *out, size_t out_len);
+
+/* Leaves in out the 254 sound words of the codeword that the protected words are within three bytes of. Refuses 21, 2, 9, 23. */
+AyRepaired ay_repair(const uint16_t *words, size_t words_len, uint16_t *out, size_t out_len);
+
+/* Says what 248 bytes are refused for as a record. Refuses 21, 11 to 14. */
+AyAnswer ay_record_refusal(const uint8_t *bytes, size_t bytes_len);
+
+/* ---- field */
+
+/* Packs 262 words, with Y/C, line and offset, into the 328 bytes of a B40 field; the four pad bits are 1. Refuses 1, 2, 3, 26, 23. */
+AyAnswer ay_pack(bool yc, uint16_t line, uint16_t offset, const uint16_t *words, size_t words_len, uint8_t *out, size_t out_len);
+
+/* Unpacks 328 bytes into the 262 words of their packet; the pad bits may be anything. Refuses 25, 26, 23. */
+AyField ay_unpack(const uint8_t *field, size_t field_len, uint16_t *out, size_t out_len);
+
+/* ---- desk */
+
+/* A desk with the opening record, CI 0 and no history. Refuses nothing. */
+AyDesk ay_desk_open(bool correction);
+
+/* Stores an item's bytes, one step more; of more than 32 steps the oldest goes. Refuses 20, 21, 11 to 14. */
+AyTurn ay_desk_edit(AyDesk desk, uint8_t item, const uint8_t *bytes, size_t bytes_len);
+
+/* Puts back the bytes before the latest step, and takes the step away; CI stays. Refuses 22. */
+AyTurn ay_desk_undo(AyDesk desk);
+
+/* Writes the 262 words of the desk's record with its CI, and counts CI on, 15 to 0. Refuses 24, 23. */
+AyTurn ay_desk_send(AyDesk desk, uint16_t *out, size_t out_len);
+
+/* ---- follower */
+
+/* A follower at which nothing has arrived. Refuses nothing. */
+AyFollower ay_follower_open(void);
+
+/* Takes 262 words in: FIRST, NEXT, REPEAT or CONFLICT, and what was missed and set. Refuses 1 to 14, which the follower counts. */
+AyFollowed ay_follower_follow(AyFollower follower, const uint16_t *words, size_t words_len);
+
+#ifdef __cplusplus
+}
+#endif
+
+#endif

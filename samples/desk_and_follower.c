@@ -1,0 +1,184 @@
+/* A desk sends a packet, three of its words are damaged, and a follower reads it.
+ *
+ *   rt staticlib capi
+ *   cc -std=c99 samples/desk_and_follower.c target/staticlib/libcapi.a -o DIR/desk_and_follower
+ *
+ * Prints what the follower heard, and exits with 0; or says what is not as it should be, and exits with 1. */
+#include <stdio.h>
+#include <string.h>
+
+#include "../include/aynirukh.h"
+
+/* The layouts are those of the Rattle structs, which have them by C's rules. */
+typedef char desk_is_571_bytes[sizeof(AyDesk) == 571 ? 1 : -1];
+typedef char turn_is_573_bytes[sizeof(AyTurn) == 573 ? 1 : -1];
+typedef char follower_is_272_bytes[sizeof(AyFollower) == 272 ? 1 : -1];
+typedef char followed_is_284_bytes[sizeof(AyFollowed) == 284 ? 1 : -1];
+
+static int differences = 0;
+
+static void expect(const char *what, unsigned long is, unsigned long should)
+{
+    if (is != should) {
+        printf("differs: %s is %lu, not %lu\n", what, is, should);
+        differences++;
+    }
+}
+
+static void expect_bytes(const char *what, const void *is, const void *should, size_t length)
+{
+    if (memcmp(is, should, length) != 0) {
+        printf("differs: %s\n", what);
+        differences++;
+    }
+}
+
+/* Byte n of a record, counted from 1. */
+static unsigned at(const uint8_t *bytes, int n)
+{
+    return bytes[n - 1];
+}
+
+/* The small calls: what crosses in a register. */
+static void words(void)
+{
+    const uint16_t three[3] = { 0x3FF, 0x001, 0x002 };
+    expect("the word of 0x85", ay_word_of(0x85), 0x185);
+    expect("0x20F is sound", ay_is_sound(0x20F), true);
+    expect("0x10F is sound", ay_is_sound(0x10F), false);
+    expect("checksum of three words", ay_checksum(three, 3), 0x202);
+}
+
+/* An edit, a second one that is undone, and two that are refused. */
+static AyDesk edits(AyDesk desk)
+{
+    const uint8_t sound = 0x92, other = 0x05, wrong = 0x1B;
+    AyTurn turn = ay_desk_edit(desk, 6, &sound, 1);
+    expect("number of the edit", turn.number, AY_DONE);
+    expect("sound mode after the edit", at(turn.desk.bytes, 27), 0x92);
+    AyDesk edited = turn.desk;
+
+    turn = ay_desk_edit(edited, 6, &other, 1);
+    expect("number of the second edit", turn.number, AY_DONE);
+    expect("steps after two edits", turn.desk.count, 2);
+    expect("item of the second step", turn.desk.steps[1].item, 6);
+    expect("byte before the second step", turn.desk.steps[1].old[0], 0x92);
+    turn = ay_desk_undo(turn.desk);
+    expect("number of the undo", turn.number, AY_DONE);
+    expect("steps after the undo", turn.desk.count, 1);
+    expect_bytes("the record after the undo", turn.desk.bytes, edited.bytes, AY_RECORD_BYTES);
+
+    AyTurn refused = ay_desk_edit(turn.desk, 6, &wrong, 1);
+    expect("number of sound mode 0x1B", refused.number, AY_SOUND);
+    expect("place of sound mode 0x1B", refused.place, 27);
+    expect_bytes("the desk after a refusal", &refused.desk, &turn.desk, sizeof(AyDesk));
+    expect("number of an undo at a fresh desk", ay_desk_undo(ay_desk_open(true)).number, AY_NOTHING_TO_UNDO);
+    return turn.desk;
+}
+
+/* What the other calls on packets say of the words, and repair of the protected ones alone. */
+static void readings(const AyDesk *desk, const uint16_t *sent, const uint16_t *damaged)
+{
+    uint8_t record[AY_RECORD_BYTES];
+    uint16_t again[AY_PACKET_WORDS];
+    AyPacket packet = ay_read_packet_into(damaged, AY_PACKET_WORDS, record, AY_RECORD_BYTES);
+    expect("number of reading", packet.number, AY_DONE);
+    expect("correction as read", packet.correction, true);
+    expect("CI as read", packet.ci, 0);
+    expect("fixed as read", packet.fixed, 3);
+    expect_bytes("the record as read", record, desk->bytes, AY_RECORD_BYTES);
+
+    AyRepaired repaired = ay_repair(damaged + 7, AY_PROTECTED_WORDS, again + 7, AY_PROTECTED_WORDS);
+    expect("number of repair", repaired.number, AY_DONE);
+    expect("fixed by repair", repaired.fixed, 3);
+    expect_bytes("the repaired words", again + 7, sent + 7, AY_PROTECTED_WORDS * sizeof(uint16_t));
+
+    AyAnswer answer = ay_write_packet(true, 0, record, AY_RECORD_BYTES, again, AY_PACKET_WORDS);
+    expect("number of writing", answer.number, AY_DONE);
+    expect_bytes("the words written again", again, sent, sizeof(again));
+    expect("number of writing CI 16", ay_write_packet(true, 16, record, AY_RECORD_BYTES, again, AY_PACKET_WORDS).number, AY_INDEX);
+    record[8] = 0x9A;
+    answer = ay_record_refusal(record, AY_RECORD_BYTES);
+    expect("number of year 0x9A", answer.number, AY_TIME);
+    expect("place of year 0x9A", answer.place, 9);
+    packet = ay_read_packet(sent, AY_PACKET_WORDS - 1);
+    expect("number of 261 words", packet.number, AY_LENGTH);
+    expect("correction of 261 words", packet.correction, false);
+}
+
+/* The damaged packet, the same again, one that is refused, and a later one with a trigger set. */
+static void follows(AyDesk desk, const uint16_t *damaged)
+{
+    const uint8_t triggers[4] = { 0x01, 0x00, 0x00, 0x80 };
+    uint16_t later[AY_PACKET_WORDS];
+    AyFollowed heard = ay_follower_follow(ay_follower_open(), damaged, AY_PACKET_WORDS);
+    printf("kind %d CI %d fixed %d missed %d\n", heard.kind, heard.ci, heard.fixed, heard.missed);
+    expect("number", heard.number, AY_DONE);
+    expect("kind", heard.kind, AY_FIRST);
+    expect("CI", heard.ci, 0);
+    expect("fixed", heard.fixed, 3);
+    expect("missed", heard.missed, 0);
+    expect("onsets", heard.onsets, 0);
+    expect("started", heard.follower.started, true);
+    expect("accepted", heard.follower.accepted, 1);
+    expect_bytes("the record that the follower holds", heard.follower.rec, desk.bytes, AY_RECORD_BYTES);
+
+    heard = ay_follower_follow(heard.follower, damaged, AY_PACKET_WORDS);
+    expect("kind of the same again", heard.kind, AY_REPEAT);
+    expect("repeated", heard.follower.repeated, 1);
+    heard = ay_follower_follow(heard.follower, damaged, AY_PACKET_WORDS - 1);
+    expect("number of a short packet", heard.number, AY_LENGTH);
+    expect("kind of a short packet", heard.kind, AY_NONE);
+    expect("refused", heard.follower.refused, 1);
+
+    AyTurn turn = ay_desk_edit(desk, 9, triggers, 4);
+    turn = ay_desk_send(turn.desk, later, AY_PACKET_WORDS);
+    turn = ay_desk_send(turn.desk, later, AY_PACKET_WORDS);
+    expect("number of the third send", turn.number, AY_DONE);
+    heard = ay_follower_follow(heard.follower, later, AY_PACKET_WORDS);
+    printf("kind %d CI %d fixed %d missed %d onsets %08lX\n", heard.kind, heard.ci, heard.fixed, heard.missed, (unsigned long) heard.onsets);
+    expect("kind after one dropped packet", heard.kind, AY_NEXT);
+    expect("CI after one dropped packet", heard.ci, 2);
+    expect("missed after one dropped packet", heard.missed, 1);
+    expect("onsets of Q1 and Q32", heard.onsets, 0x80000001);
+    expect("missed, counted", heard.follower.missed, 1);
+    expect_bytes("the later record that the follower holds", heard.follower.rec, turn.desk.bytes, AY_RECORD_BYTES);
+}
+
+/* The packet in a field, and out of it again. */
+static void fields(const uint16_t *sent)
+{
+    uint8_t field[AY_FIELD_BYTES];
+    uint16_t back[AY_PACKET_WORDS];
+    expect("number of packing", ay_pack(true, 9, 2199, sent, AY_PACKET_WORDS, field, AY_FIELD_BYTES).number, AY_DONE);
+    expect("number of packing line 1,126", ay_pack(true, 1126, 0, sent, AY_PACKET_WORDS, field, AY_FIELD_BYTES).number, AY_FIELD_HEAD);
+    AyField head = ay_unpack(field, AY_FIELD_BYTES, back, AY_PACKET_WORDS);
+    expect("number of unpacking", head.number, AY_DONE);
+    expect("Y/C", head.yc, true);
+    expect("line", head.line, 9);
+    expect("offset", head.offset, 2199);
+    for (int i = 0; i < AY_PACKET_WORDS; i++)
+        expect("a word from the field", back[i], sent[i]);
+    expect("number of a short field", ay_unpack(field, AY_FIELD_BYTES - 1, back, AY_PACKET_WORDS).number, AY_FIELD_LENGTH);
+}
+
+int main(void)
+{
+    uint16_t sent[AY_PACKET_WORDS], damaged[AY_PACKET_WORDS];
+    words();
+    AyDesk desk = edits(ay_desk_open(true));
+    AyTurn turn = ay_desk_send(desk, sent, AY_PACKET_WORDS);
+    expect("number of the send", turn.number, AY_DONE);
+    expect("CI of the next packet", turn.desk.ci, 1);
+    expect("number of a send into 261 words", ay_desk_send(desk, sent, AY_PACKET_WORDS - 1).number, AY_ROOM);
+
+    /* The first protected word, one of item 2, and the last. */
+    memcpy(damaged, sent, sizeof(sent));
+    damaged[7] ^= 0x3FF;
+    damaged[17] ^= 0x004;
+    damaged[260] = 0;
+    readings(&turn.desk, sent, damaged);
+    fields(sent);
+    follows(turn.desk, damaged);
+    return differences == 0 ? 0 : 1;
+}
