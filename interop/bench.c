@@ -16,6 +16,7 @@ static uint8_t sent[BLOCKS][BLOCK];
 static uint8_t damaged[KINDS][BLOCKS][BLOCK];
 static uint16_t damaged_words[KINDS][BLOCKS][BLOCK];
 static uint16_t packet[BLOCKS][AY_PACKET_WORDS];
+static uint8_t field[BLOCKS][AY_FIELD_BYTES];
 static const int changes_of[KINDS] = {0, 1, 2, 3, 5};
 static volatile unsigned sink;
 
@@ -84,6 +85,20 @@ static void our_read(int kind, int b)
     sink += ay_read_packet(packet[b], AY_PACKET_WORDS).fixed;
 }
 
+static void our_pack(int kind, int b)
+{
+    uint8_t out[AY_FIELD_BYTES];
+    (void)kind;
+    sink += ay_pack(b % 2, (uint16_t)(9 + b), (uint16_t)(3 * b), packet[b], AY_PACKET_WORDS, out, AY_FIELD_BYTES).number + out[327];
+}
+
+static void our_unpack(int kind, int b)
+{
+    uint16_t out[AY_PACKET_WORDS];
+    (void)kind;
+    sink += ay_unpack(field[b], AY_FIELD_BYTES, out, AY_PACKET_WORDS).line + out[261];
+}
+
 static void our_repair(int kind, int b)
 {
     uint16_t out[BLOCK];
@@ -137,6 +152,10 @@ int main(void)
             puts("bench: a packet is refused");
             return 1;
         }
+        if (ay_pack(b % 2, (uint16_t)(9 + b), (uint16_t)(3 * b), packet[b], AY_PACKET_WORDS, field[b], AY_FIELD_BYTES).number != AY_DONE) {
+            puts("bench: a field is refused");
+            return 1;
+        }
         for (int k = 0; k < KINDS; k++) {
             memcpy(damaged[k][b], sent[b], BLOCK);
             damage(damaged[k][b], changes_of[k]);
@@ -146,6 +165,8 @@ int main(void)
     }
     printf("%-34s %8s %8s %8s\n", "microseconds a block", "ours", "libfec", "ratio");
     row("write a packet / encode", time_of(our_write, 0), time_of(fec_encode, 0), 4);
+    row("pack a field / encode", time_of(our_pack, 0), time_of(fec_encode, 0), 10);
+    row("unpack a field / encode", time_of(our_unpack, 0), time_of(fec_encode, 0), 10);
     double clean = time_of(our_repair, 0);
     row("repair, clean / decode", clean, time_of(fec_decode, 0), 2);
     row("repair, one word / decode", time_of(our_repair, 1), time_of(fec_decode, 1), 2);
@@ -166,8 +187,8 @@ int main(void)
     }
     free_rs_char(rs);
     if (missed)
-        printf("bench: %d of 7 figures missed\n", missed);
+        printf("bench: %d of 9 figures missed\n", missed);
     else
-        puts("bench: all 7 figures reached");
+        puts("bench: all 9 figures reached");
     return missed != 0;
 }

@@ -2,6 +2,7 @@
 ghost use mathlib.Core.Path.{_≡_};
 ghost use Prim.Native.Nat.{_<_};
 ghost use Rattle.anc.specs.Word.{parityOf, withB9, wordOf, isSound, checksumOf};
+ghost use Rattle.anc.specs.Words.{hasFlag, narrow, lowBytes, soundWords, asLong, filledBy};
 
 // The even parity of a byte: each half is folded onto the other until one bit is left.
 fn parity(byte: u8) -> u8
@@ -21,11 +22,11 @@ fn with_b9(nine: u16) -> u16
     nine + 512 * (1 - nine / 256)
 }
 
-// The sound word that carries a byte.
+// The sound word that carries a byte: b8 and b9 together are 2 less the parity.
 pub fn word_of(byte: u8) -> u16
     ensures { λ r. ⌜ r ≡ wordOf byte ⌝ }
 {
-    with_b9(byte as u16 + 256 * parity(byte) as u16)
+    byte as u16 + 256 * (2 - parity(byte)) as u16
 }
 
 // Is the word sound? It is when it is the word of its own low byte.
@@ -47,4 +48,60 @@ pub fn checksum(words: &[u16]) -> u16
         i += 1;
     }
     with_b9(sum % 512)
+}
+
+// Do the words begin with the flag of a packet?
+pub fn has_flag(words: &[u16]) -> bool
+    ensures { λ r. ⌜ r ≡ hasFlag (now (words .entry)) ⌝ }
+{
+    if words.len() < 3 {
+        return false;
+    }
+    (words[0] == 0x000) & (words[1] == 0x3FF) & (words[2] == 0x3FF)
+}
+
+// Is no word over 1,023? It goes by the largest, with no early return, so that the words can be taken many at a time.
+pub fn narrow(words: &[u16]) -> bool
+    ensures { λ r. ⌜ r ≡ narrow (now (words .entry)) ⌝ }
+{
+    let mut top: u16 = 0;
+    let mut i = 0;
+    while i < words.len() {
+        let word = words[i];
+        if word > top {
+            top = word;
+        }
+        i += 1;
+    }
+    top <= 1023
+}
+
+// Fills `out` with the low bytes of the words: true; or leaves it as it was, where it has another length: false.
+pub fn low_bytes(words: &[u16], out: &mut [u8]) -> bool
+    ensures { λ r. ⌜ (r ≡ asLong (now (words .entry)) (now (out .entry))) × (now (out .exit) ≡ filledBy (lowBytes (now (words .entry))) (now (out .entry))) ⌝ }
+{
+    if words.len() != out.len() {
+        return false;
+    }
+    let mut i = 0;
+    while i < words.len() {
+        out[i] = (words[i] % 256) as u8;
+        i += 1;
+    }
+    true
+}
+
+// Fills `out` with the sound words of the bytes: true; or leaves it as it was, where it has another length: false.
+pub fn sound_words(bytes: &[u8], out: &mut [u16]) -> bool
+    ensures { λ r. ⌜ (r ≡ asLong (now (bytes .entry)) (now (out .entry))) × (now (out .exit) ≡ filledBy (soundWords (now (bytes .entry))) (now (out .entry))) ⌝ }
+{
+    if bytes.len() != out.len() {
+        return false;
+    }
+    let mut i = 0;
+    while i < bytes.len() {
+        out[i] = word_of(bytes[i]);
+        i += 1;
+    }
+    true
 }

@@ -1,5 +1,6 @@
 pub mod Bits
 pub mod Back
+pub mod Window
 pub mod Places
 pub mod Packing
 pub mod Unpacking

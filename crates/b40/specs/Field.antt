@@ -6,7 +6,7 @@ use Prim.Native.Nat.{ℕ, zero, suc, _+_, _*_, _^_}
 use lib.Dec.{eqb, leb}
 use lib.ListN.{length, take, drop, replicate}
 use Rattle.anc.specs.Word.{bit}
-use Rattle.packet.specs.Layout.{flag}
+use Rattle.anc.specs.Words.{flag}
 
 -- ---- bits, the most significant first
 

@@ -5,16 +5,14 @@ use mathlib.Core.List.{List}
 use mathlib.Core.Option.{Option}
 use Prim.Native.Nat.{ℕ}
 use lib.Dec.{eqb}
-use lib.ListN.{length, take}
-use Rattle.basics.specs.Each.{same}
+use lib.ListN.{length}
 use Rattle.refusal.specs.Chain.{require, passed, leftBy}
 use Rattle.refusal.specs.Number.{refusalPlain}
 use Rattle.refusal.specs.declared.Reason.the-variants.{Length, Wide, Flag, FieldHead, Room}
 use Rattle.refusal.specs.declared.Refusal.{Refusal}
-use Rattle.packet.specs.Protected.{narrow}
-use Rattle.packet.specs.Layout.{flag}
-use Rattle.packet.specs.Written.{writtenBy}
-use Rattle.packet.specs.declared.Written.{Written}
+use Rattle.anc.specs.Words.{hasFlag, narrow}
+use Rattle.writing.specs.Written.{writtenBy}
+use Rattle.writing.specs.declared.Written.{Written}
 use Rattle.b40.specs.Field.{isPlace, fieldOf}
 
 -- 1, 2, 3, 26, 23: the words, the line and offset, and room for so many bytes
@@ -22,7 +20,7 @@ unfoldable pub packRefusal : ℕ → ℕ → List ℕ → ℕ → Option Refusal
 packRefusal line offset words room =
     require (eqb (length words) 262) (refusalPlain Length)
     (require (narrow words) (refusalPlain Wide)
-    (require (same (take 3 words) flag) (refusalPlain Flag)
+    (require (hasFlag words) (refusalPlain Flag)
     (require (isPlace line offset) (refusalPlain FieldHead) (require (eqb room 328) (refusalPlain Room) passed))))
 
 -- the answer; what it says is in `refusalIn` of the packet's writing

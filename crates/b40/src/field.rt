@@ -1,34 +1,11 @@
-// The bits of a field one by one, the bytes that they are packed into, and the numbers that a field's bits spell.
+// What stands in a field, as code gets at it: ten bits lie in two neighbouring bytes and eight bits in two neighbouring words of ten, so that four
+// words go into five bytes.
 ghost use mathlib.Core.Path.{_≡_};
-ghost use Prim.Native.Nat.{_+_, _≤_, _<_};
-ghost use lib.ListN.{length, getD, take};
-ghost use Rattle.anc.specs.Word.{bit};
-ghost use Rattle.basics.specs.Each.{same};
-ghost use Rattle.packet.specs.Protected.{narrow};
-ghost use Rattle.packet.specs.Layout.{flag};
-ghost use Rattle.b40.specs.Field.{fieldBits, fieldOf, bitsOf, part, wordsOf, isPlace};
-
-// Is no word over 1,023?
-pub(crate) fn narrow(words: &[u16]) -> bool
-    ensures { λ r. ⌜ r ≡ narrow (now (words .entry)) ⌝ }
-{
-    let mut i = 0;
-    while i < words.len() {
-        if words[i] > 1023 {
-            return false;
-        }
-        i += 1;
-    }
-    true
-}
-
-// Do the words begin with the flag?
-pub(crate) fn has_flag(words: &[u16]) -> bool
-    requires { ⌜ length (now words) ≡ 262 ⌝ }
-    ensures { λ r. ⌜ r ≡ same (take 3 (now (words .entry))) flag ⌝ }
-{
-    (words[0] == 0x000) & (words[1] == 0x3FF) & (words[2] == 0x3FF)
-}
+ghost use mathlib.Core.Bool.{true};
+ghost use Prim.Native.Nat.{_+_, _*_, _≤_, _<_};
+ghost use lib.ListN.{length, take, drop};
+ghost use Rattle.anc.specs.Words.{narrow};
+ghost use Rattle.b40.specs.Field.{bitsEach, numberOf, numbers, fieldOf, part, wordsOf, isPlace};
 
 // Is the line 1 to 1,125, and the offset at most 2,199?
 pub(crate) fn is_place(line: u16, offset: u16) -> bool
@@ -37,107 +14,90 @@ pub(crate) fn is_place(line: u16, offset: u16) -> bool
     (1 <= line) & (line <= 1125) & (offset <= 2199)
 }
 
-// Bit i of a number, b0 the lowest.
-fn bit(number: u16, i: usize) -> u16
-    requires { ⌜ i < 12 ⌝ }
-    ensures { λ r. ⌜ (r ≡ bit i number) × (r < 2) ⌝ }
+// Eight bits of words of ten, from bit 10k + from on: they lie in word k and the next.
+fn byte(words: &[u16], k: usize, from: usize) -> u8
+    requires { ⌜ (narrow (now words) ≡ true) × (k + 1 < length (now words)) × (from ≤ 12) ⌝ }
+    ensures { λ r. ⌜ r ≡ numberOf (take 8 (drop (10 * k + from) (bitsEach 10 (now (words .entry))))) ⌝ }
 {
-    (number >> i) % 2
+    (((words[k] as u32 * 1024 + words[k + 1] as u32) >> (12 - from)) % 256) as u8
 }
 
-// Bit k of the field that is packed.
-fn packed_bit(yc: bool, line: u16, offset: u16, words: &[u16], k: usize) -> u16
-    requires { ⌜ (length (now words) ≡ 262) × (k < 2624) ⌝ }
-    ensures { λ r. ⌜ (r ≡ getD (fieldBits yc line offset (now (words .entry))) k 0) × (r < 2) ⌝ }
+// Fills 328 bytes with the bits of 263 words, of the last as many as there is room for.
+fn fill_bytes(words: &[u16], out: &mut [u8])
+    requires { ⌜ (narrow (now words) ≡ true) × (length (now words) ≡ 263) × (length (now out) ≡ 328) ⌝ }
+    ensures { λ r. ⌜ now (out .exit) ≡ numbers 328 8 (bitsEach 10 (now (words .entry))) ⌝ }
 {
-    if k < 6 {
-        return 0;
-    }
-    if k == 6 {
-        return yc as u16;
-    }
-    if k < 18 {
-        return bit(line, 17 - k);
-    }
-    if k < 30 {
-        return bit(offset, 29 - k);
-    }
-    if k < 2620 {
-        return bit(words[k / 10], 9 - k % 10);
-    }
-    1
-}
-
-// Byte i of the field that is packed.
-fn packed_byte(yc: bool, line: u16, offset: u16, words: &[u16], i: usize) -> u8
-    requires { ⌜ (length (now words) ≡ 262) × (i < 328) ⌝ }
-    ensures { λ r. ⌜ r ≡ getD (fieldOf yc line offset (now (words .entry))) i 0 ⌝ }
-{
-    let mut sum: u16 = 0;
-    let mut j: usize = 0;
-    while j < 8 {
-        sum = 2 * sum + packed_bit(yc, line, offset, words, 8 * i + j);
-        j += 1;
-    }
-    sum as u8
-}
-
-// Fills 328 bytes with the field.
-pub(crate) fn write_bytes(yc: bool, line: u16, offset: u16, words: &[u16], out: &mut [u8])
-    requires { ⌜ (length (now words) ≡ 262) × (length (now out) ≡ 328) ⌝ }
-    ensures { λ r. ⌜ now (out .exit) ≡ fieldOf yc line offset (now (words .entry)) ⌝ }
-{
-    let mut i = 0;
-    while i < out.len() {
-        out[i] = packed_byte(yc, line, offset, words, i);
+    let mut i: usize = 0;
+    while i < 65 {
+        out[5 * i] = byte(words, 4 * i, 0);
+        out[5 * i + 1] = byte(words, 4 * i, 8);
+        out[5 * i + 2] = byte(words, 4 * i + 1, 6);
+        out[5 * i + 3] = byte(words, 4 * i + 2, 4);
+        out[5 * i + 4] = byte(words, 4 * i + 3, 2);
         i += 1;
     }
+    out[325] = byte(words, 260, 0);
+    out[326] = byte(words, 260, 8);
+    out[327] = byte(words, 261, 6);
 }
 
-// Bit k of a field.
-fn field_bit(field: &[u8], k: usize) -> u16
-    requires { ⌜ (length (now field) ≡ 328) × (k < 2624) ⌝ }
-    ensures { λ r. ⌜ (r ≡ getD (bitsOf (now (field .entry))) k 0) × (r < 2) ⌝ }
+// Fills 328 bytes with the field. What stands before the words takes the place of the flag, three words of ten bits; the pad is the upper bits of
+// a word behind the others.
+pub(crate) fn write_bytes(yc: bool, line: u16, offset: u16, words: &[u16], out: &mut [u8])
+    requires { ⌜ (narrow (now words) ≡ true) × (isPlace line offset ≡ true) × (length (now words) ≡ 262) × (length (now out) ≡ 328) ⌝ }
+    ensures { λ r. ⌜ now (out .exit) ≡ fieldOf yc line offset (now (words .entry)) ⌝ }
 {
-    bit(field[k / 8] as u16, 7 - k % 8)
+    let mut head = line as u32 * 4096 + offset as u32;
+    if yc {
+        head += 0x800000;
+    }
+    let mut all: [u16; 263] = [0x3C0; 263];
+    let mut i: usize = 0;
+    while i < 262 {
+        all[i] = words[i];
+        i += 1;
+    }
+    all[0] = (head >> 20) as u16;
+    all[1] = ((head >> 10) % 1024) as u16;
+    all[2] = (head % 1024) as u16;
+    fill_bytes(&all, out);
 }
 
-// The number that n bits of a field spell, from the given one on.
-pub(crate) fn part(field: &[u8], from: usize, n: usize) -> u16
-    requires { ⌜ (length (now field) ≡ 328) × (n ≤ 12) × (from + n ≤ 2620) ⌝ }
-    ensures { λ r. ⌜ r ≡ part (now (field .entry)) from n ⌝ }
+// The number that the first 32 bits of a field spell.
+pub(crate) fn first(field: &[u8]) -> u32
+    requires { ⌜ 4 ≤ length (now field) ⌝ }
+    ensures { λ r. ⌜ r ≡ part (now (field .entry)) 0 32 ⌝ }
 {
-    let mut sum: u16 = 0;
-    let mut j: usize = 0;
-    while j < n {
-        sum = 2 * sum + field_bit(field, from + j);
-        j += 1;
-    }
-    sum
+    field[0] as u32 * 0x1000000
+        + field[1] as u32 * 0x10000
+        + field[2] as u32 * 0x100
+        + field[3] as u32
 }
 
-// Word i of the packet in a field: the flag's three come first, then those of ten bits each.
-fn field_word(field: &[u8], i: usize) -> u16
-    requires { ⌜ (length (now field) ≡ 328) × (i < 262) ⌝ }
-    ensures { λ r. ⌜ r ≡ getD (wordsOf (now (field .entry))) i 0 ⌝ }
+// Ten bits of a field, from bit 8k + from on: they lie in byte k and the next.
+fn word(field: &[u8], k: usize, from: usize) -> u16
+    requires { ⌜ (k + 1 < length (now field)) × (from ≤ 6) ⌝ }
+    ensures { λ r. ⌜ r ≡ part (now (field .entry)) (8 * k + from) 10 ⌝ }
 {
-    if i == 0 {
-        return 0x000;
-    }
-    if i < 3 {
-        return 0x3FF;
-    }
-    part(field, 10 * i, 10)
+    ((field[k] as u16 * 256 + field[k + 1] as u16) >> (6 - from)) % 1024
 }
 
-// Fills 262 words with the packet in a field.
+// Fills 262 words with the packet in a field. The flag takes the place of what stands before the words.
 pub(crate) fn write_words(field: &[u8], out: &mut [u16])
     requires { ⌜ (length (now field) ≡ 328) × (length (now out) ≡ 262) ⌝ }
     ensures { λ r. ⌜ now (out .exit) ≡ wordsOf (now (field .entry)) ⌝ }
 {
-    let mut i = 0;
-    while i < out.len() {
-        out[i] = field_word(field, i);
+    let mut i: usize = 0;
+    while i < 65 {
+        out[4 * i] = word(field, 5 * i, 0);
+        out[4 * i + 1] = word(field, 5 * i + 1, 2);
+        out[4 * i + 2] = word(field, 5 * i + 2, 4);
+        out[4 * i + 3] = word(field, 5 * i + 3, 6);
         i += 1;
     }
+    out[260] = word(field, 325, 0);
+    out[261] = word(field, 326, 2);
+    out[0] = 0x000;
+    out[1] = 0x3FF;
+    out[2] = 0x3FF;
 }

@@ -3,32 +3,38 @@ mod field;
 
 ghost use mathlib.Core.Path.{_≡_};
 ghost use lib.ListN.{length};
-ghost use Rattle.b40.specs.Packing.{packedOf, packLeaves};
+ghost use Rattle.refusal.specs.Checked.{checkedOf};
+ghost use Rattle.b40.specs.Packing.{packRefusal, packedOf, packLeaves};
 ghost use Rattle.b40.specs.Unpacking.{unpackedOf, unpackLeaves};
-use packet::Written;
+use refusal::Checked;
 use refusal::Reason;
+use refusal::then;
+use writing::Written;
 
 // Packs a packet's words, with Y/C, line and offset, into a field. A refusal leaves `out` as it was.
 pub fn pack(yc: bool, line: u16, offset: u16, words: &[u16], out: &mut [u8]) -> Written
     ensures { λ r. ⌜ (r ≡ packedOf line offset (now (words .entry)) (length (now (out .entry)))) × (now (out .exit) ≡ packLeaves yc line offset (now (words .entry)) (now (out .entry))) ⌝ }
 {
-    if words.len() != 262 {
-        return Written::Refused(refusal::plain(Reason::Length));
+    let checked = pack_refusal(line, offset, words, out.len());
+    match checked {
+        Checked::Refused(why) => Written::Refused(why),
+        Checked::Passed => {
+            field::write_bytes(yc, line, offset, words, out);
+            Written::Done
+        }
     }
-    if !field::narrow(words) {
-        return Written::Refused(refusal::plain(Reason::Wide));
-    }
-    if !field::has_flag(words) {
-        return Written::Refused(refusal::plain(Reason::Flag));
-    }
-    if !field::is_place(line, offset) {
-        return Written::Refused(refusal::plain(Reason::FieldHead));
-    }
-    if out.len() != 328 {
-        return Written::Refused(refusal::plain(Reason::Room));
-    }
-    field::write_bytes(yc, line, offset, words, out);
-    Written::Done
+}
+
+// What packing is refused for, with room for so many bytes.
+fn pack_refusal(line: u16, offset: u16, words: &[u16], room: usize) -> Checked
+    ensures { λ r. ⌜ r ≡ checkedOf (packRefusal line offset (now (words .entry)) room) ⌝ }
+{
+    let none = Checked::Passed;
+    let length = then(none, words.len() == 262, Reason::Length, 0);
+    let wide = then(length, anc::narrow(words), Reason::Wide, 0);
+    let flag = then(wide, anc::has_flag(words), Reason::Flag, 0);
+    let place = then(flag, field::is_place(line, offset), Reason::FieldHead, 0);
+    then(place, room == 328, Reason::Room, 0)
 }
 
 // What stands in a field before its words.
@@ -51,18 +57,19 @@ pub fn unpack(field: &[u8], out: &mut [u16]) -> Unpacked
     if field.len() != 328 {
         return Unpacked::Refused(refusal::plain(Reason::FieldLength));
     }
-    let line = field::part(field, 7, 11);
-    let offset = field::part(field, 18, 12);
-    if field::part(field, 0, 6) != 0 {
-        return Unpacked::Refused(refusal::plain(Reason::FieldHead));
+    let first = field::first(field);
+    let yc = (first >> 25) % 2 == 1;
+    let line = ((first >> 14) % 2048) as u16;
+    let offset = ((first >> 2) % 4096) as u16;
+    let length = Checked::Passed;
+    let place = (first >> 26 == 0) & field::is_place(line, offset);
+    let head = then(length, place, Reason::FieldHead, 0);
+    let checked = then(head, out.len() == 262, Reason::Room, 0);
+    match checked {
+        Checked::Refused(why) => Unpacked::Refused(why),
+        Checked::Passed => {
+            field::write_words(field, out);
+            Unpacked::Done(Head { yc, line, offset })
+        }
     }
-    if !field::is_place(line, offset) {
-        return Unpacked::Refused(refusal::plain(Reason::FieldHead));
-    }
-    if out.len() != 262 {
-        return Unpacked::Refused(refusal::plain(Reason::Room));
-    }
-    let yc = field::part(field, 6, 1) == 1;
-    field::write_words(field, out);
-    Unpacked::Done(Head { yc, line, offset })
 }

@@ -1,3 +1,4 @@
 pub mod Test
 pub mod Each
+pub mod Below
 pub mod Parts

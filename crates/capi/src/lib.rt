@@ -1,77 +1,25 @@
 // The calls for C: numbers, lent slices and plain structs, each under its plain name. What they say stands in include/aynirukh.h.
-mod answers;
-
 ghost use mathlib.Core.Path.{_≡_};
 ghost use lib.ListN.{length};
 ghost use Rattle.anc.specs.Word.{wordOf, isSound, checksumOf};
-ghost use Rattle.record.specs.Items.{recordRefusal};
-ghost use Rattle.packet.specs.Writing.{writeRefusal};
-ghost use Rattle.packet.specs.Written.{writeLeaves};
-ghost use Rattle.packet.specs.Answer.{readingOf, readingIntoOf, readLeaves};
-ghost use Rattle.packet.specs.Repair.{repairedOf, repairLeaves};
+ghost use Rattle.record.specs.Record.{recordRefusal};
+ghost use Rattle.writing.specs.Writing.{writeRefusal};
+ghost use Rattle.writing.specs.Written.{writeLeaves};
+ghost use Rattle.reading.specs.Answer.{readingOf, readingIntoOf, readLeaves};
+ghost use Rattle.repair.specs.Repair.{repairedOf, repairLeaves};
 ghost use Rattle.desk.specs.Desk.{opened, edited, undone, sent, sendLeaves};
 ghost use Rattle.follower.specs.Follower.{followed, opened as nothingArrived};
-ghost use Rattle.capi.specs.Answers.{answerBy, packetFrom, repairedFrom, fieldFrom, turnFrom, followedFrom};
 ghost use Rattle.b40.specs.Packing.{packRefusal, packLeaves};
 ghost use Rattle.b40.specs.Unpacking.{unpackedOf, unpackLeaves};
+ghost use Rattle.answers.specs.Answers.{answerBy, packetFrom, repairedFrom, fieldFrom, turnFrom, followedFrom};
+use answers::AyAnswer;
+use answers::AyField;
+use answers::AyFollowed;
+use answers::AyPacket;
+use answers::AyRepaired;
+use answers::AyTurn;
 use desk::Desk;
 use follower::Follower;
-
-// Done, 0 and 0; or the number and the place of the refusal.
-#[repr(C)]
-pub struct AyAnswer {
-    pub number: u8,
-    pub place: u8,
-}
-
-// The answer, and the packet that was accepted, or zeros.
-#[repr(C)]
-pub struct AyPacket {
-    pub number: u8,
-    pub place: u8,
-    pub correction: bool,
-    pub ci: u8,
-    pub fixed: u8,
-}
-
-// The answer, and how many words were fixed, or 0.
-#[repr(C)]
-pub struct AyRepaired {
-    pub number: u8,
-    pub place: u8,
-    pub fixed: u8,
-}
-
-// The answer, and what stands in a field before its words, or zeros.
-#[repr(C)]
-pub struct AyField {
-    pub number: u8,
-    pub place: u8,
-    pub yc: bool,
-    pub line: u16,
-    pub offset: u16,
-}
-
-// The desk handed back, and the answer.
-#[repr(C)]
-pub struct AyTurn {
-    pub desk: Desk,
-    pub number: u8,
-    pub place: u8,
-}
-
-// The follower handed back, the answer, and what the packet brought, or zeros.
-#[repr(C)]
-pub struct AyFollowed {
-    pub follower: Follower,
-    pub number: u8,
-    pub place: u8,
-    pub kind: u8,
-    pub ci: u8,
-    pub fixed: u8,
-    pub missed: u8,
-    pub onsets: u32,
-}
 
 // ---- words
 
@@ -111,7 +59,7 @@ pub extern "C" fn ay_write_packet(
 ) -> AyAnswer
     ensures { λ r. ⌜ (r ≡ answerBy (writeRefusal ci (now (bytes .entry)) (length (now (out .entry))))) × (now (out .exit) ≡ writeLeaves correction ci (now (bytes .entry)) (now (out .entry))) ⌝ }
 {
-    let written = packet::write_packet(correction, ci, bytes, out);
+    let written = writing::write_packet(correction, ci, bytes, out);
     answers::written(written)
 }
 
@@ -120,7 +68,7 @@ pub extern "C" fn ay_write_packet(
 pub extern "C" fn ay_read_packet(words: &[u16]) -> AyPacket
     ensures { λ r. ⌜ r ≡ packetFrom (readingOf (now (words .entry))) ⌝ }
 {
-    let reading = packet::read_packet(words);
+    let reading = reading::read_packet(words);
     answers::packet(reading)
 }
 
@@ -129,7 +77,7 @@ pub extern "C" fn ay_read_packet(words: &[u16]) -> AyPacket
 pub extern "C" fn ay_read_packet_into(words: &[u16], out: &mut [u8]) -> AyPacket
     ensures { λ r. ⌜ (r ≡ packetFrom (readingIntoOf (now (words .entry)) (length (now (out .entry))))) × (now (out .exit) ≡ readLeaves (now (words .entry)) (now (out .entry))) ⌝ }
 {
-    let reading = packet::read_packet_into(words, out);
+    let reading = reading::read_packet_into(words, out);
     answers::packet(reading)
 }
 
@@ -138,7 +86,7 @@ pub extern "C" fn ay_read_packet_into(words: &[u16], out: &mut [u8]) -> AyPacket
 pub extern "C" fn ay_repair(words: &[u16], out: &mut [u16]) -> AyRepaired
     ensures { λ r. ⌜ (r ≡ repairedFrom (repairedOf (now (words .entry)) (length (now (out .entry))))) × (now (out .exit) ≡ repairLeaves (now (words .entry)) (now (out .entry))) ⌝ }
 {
-    let repaired = packet::repair(words, out);
+    let repaired = repair::repair(words, out);
     answers::repaired(repaired)
 }
 

@@ -1,6 +1,5 @@
--- Laws of the desk: how its parts are written, its steps, and the history that it stands for.
-pub mod Parts
+-- Laws of the desk: how its opening record is written, what its calls answer, and the history that it stands for.
+pub mod Opening
 pub mod Calls
-pub mod History
 pub mod Model
 pub mod Values

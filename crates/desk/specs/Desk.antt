@@ -1,29 +1,24 @@
 -- The desk: what it opens with, and what an edit, an undo and a send answer and leave, for every desk value.
 -- Assumes nothing.
-use mathlib.Core.Bool.{Bool, true, false, cond}
-use mathlib.Core.List.{List, [], _∷_, _++_}
+use mathlib.Core.Bool.{Bool, true, false}
+use mathlib.Core.List.{List}
 use mathlib.Core.Option.{Option, none, some}
 use Prim.Native.Nat.{ℕ, _+_, _-_, _%_}
 use lib.Dec.{eqb, ltb}
-use lib.ListN.{length, take, drop, getD, set, replicate}
+use lib.ListN.{length, getD, replicate}
 use Rattle.refusal.specs.Chain.{require, passed, leftBy}
 use Rattle.refusal.specs.Number.{refusalPlain}
 use Rattle.refusal.specs.declared.Reason.the-variants.{NothingToUndo, BrokenDesk, Room}
 use Rattle.refusal.specs.declared.Refusal.{Refusal}
-use Rattle.record.specs.Items.{items, broken, recordOf}
-use Rattle.record.specs.Item.{itemRefusal, placeOf, cleanOf, itemPart, putItem}
-use Rattle.record.specs.Checked.{checkedOf}
-use Rattle.packet.specs.Layout.{packetWords}
-use Rattle.desk.specs.declared.Step.{Step}
+use Rattle.record.specs.Record.{broken, recordOf}
+use Rattle.items.specs.Items.{items}
+use Rattle.items.specs.Item.{itemRefusal, cleanOf, putItem}
+use Rattle.refusal.specs.Checked.{checkedOf}
+use Rattle.writing.specs.Layout.{packetWords}
+use Rattle.steps.specs.declared.Step.{Step}
+use Rattle.steps.specs.Steps.{depth, stepRoom, heldOf, pushed, countOn, blank, stepOf, backFrom}
 use Rattle.desk.specs.declared.Desk.{Desk}
 use Rattle.desk.specs.declared.Turn.{Turn}
-
--- how many steps the history holds, and how many bytes a step has room for
-abbrev pub depth : ℕ
-depth = 32
-
-abbrev pub stepRoom : ℕ
-stepRoom = 9
 
 -- a call's answer: the desk that passed checks lead to, or the desk as it was; and the check
 abbrev pub turnBy : Option Refusal → Desk → Desk → Turn
@@ -50,35 +45,6 @@ noStep = record { item = 0; old = replicate stepRoom 0 }
 unfoldable pub opened : Bool → Desk
 opened correction = record { bytes = opening; correction = correction; ci = 0; steps = replicate depth noStep; count = 0 }
 
--- ---- the steps, the oldest first; those from the count on are not there
-
--- a count above the depth, which no opening leads to, is taken for the depth
-unfoldable pub heldOf : ℕ → ℕ
-heldOf count = cond (ltb depth count) depth count
-
--- the bytes that an item has, and zeros up to a step's room
-unfoldable pub stepOf : ℕ → List ℕ → Step
-stepOf item bytes = record { item = item; old = itemPart item bytes ++ drop (placeOf item .length) (replicate stepRoom 0) }
-
--- with one more step; the oldest goes where there is no room
-unfoldable pub pushed : List Step → ℕ → Step → List Step
-pushed steps count s = cond (ltb count depth) (set steps count s) (drop 1 steps ++ s ∷ [])
-
-unfoldable pub countOn : ℕ → ℕ
-countOn count = cond (ltb count depth) (count + 1) depth
-
--- what the logic reads past the end of the steps
-abbrev pub blank : Step
-blank = record { item = 0; old = [] }
-
--- the latest step
-abbrev pub latest : Desk → Step
-latest d = getD (d .steps) (heldOf (d .count) - 1) blank
-
--- the bytes before a step
-unfoldable pub backFrom : Step → List ℕ → List ℕ
-backFrom s bytes = putItem (s .item) (take (placeOf (s .item) .length) (s .old)) bytes
-
 -- ---- edit: 20, 21, the item's rule
 
 unfoldable pub edited : Desk → ℕ → List ℕ → Turn
@@ -94,6 +60,10 @@ edited d item bytes =
     d
 
 -- ---- undo: 22
+
+-- the latest step
+abbrev pub latest : Desk → Step
+latest d = getD (d .steps) (heldOf (d .count) - 1) blank
 
 unfoldable pub undoRefusal : Desk → Option Refusal
 undoRefusal d = require (ltb 0 (d .count)) (refusalPlain NothingToUndo) passed

@@ -6,8 +6,9 @@ use Prim.Native.Nat.{ℕ, _+_}
 use lib.Dec.{eqb}
 use lib.ListN.{take}
 use Rattle.refusal.specs.Chain.{leftBy}
-use Rattle.record.specs.Item.{itemRefusal, cleanOf, putItem}
-use Rattle.desk.specs.Desk.{depth, opening}
+use Rattle.items.specs.Item.{itemRefusal, cleanOf, putItem}
+use Rattle.steps.specs.Steps.{depth}
+use Rattle.desk.specs.Desk.{opening}
 
 -- the present record, the earlier ones (newest first, at most 32 of them), and how many packets were sent
 pub record Model : Type 0 where

@@ -1,18 +1,19 @@
--- The follower: how a packet stands to the one before it, what is counted, and what the follower is and has heard after a packet.
+-- The follower: what is counted, and what the follower is and has heard after a packet.
 -- Assumes nothing.
-use mathlib.Core.Bool.{Bool, true, false, cond, _&&_}
+use mathlib.Core.Bool.{true, false, cond}
 use mathlib.Core.List.{List}
 use mathlib.Core.Option.{Option, none, some}
-use Prim.Native.Nat.{ℕ, _+_, _-_, _*_, _/_, _%_}
-use lib.Dec.{eqb, leb}
-use lib.ListN.{getD, replicate}
+use Prim.Native.Nat.{ℕ, _+_}
+use lib.Dec.{leb}
+use lib.ListN.{replicate}
 use Rattle.refusal.specs.declared.Refusal.{Refusal}
 use Rattle.basics.specs.Each.{same}
-use Rattle.packet.specs.declared.Packet.{Packet}
-use Rattle.packet.specs.Reading.{readRefusal, readRecord}
-use Rattle.packet.specs.Answer.{packetOf}
-use Rattle.follower.specs.declared.Kind.{Kind}
-use Rattle.follower.specs.declared.Kind.the-variants.{First, Next, Repeat, Conflict}
+use Rattle.sequence.specs.declared.Kind.{Kind}
+use Rattle.sequence.specs.Sequence.{stepOf, kindOf, missedOf, repeatsIn, conflictsIn}
+use Rattle.sequence.specs.Onsets.{onsetsAfter}
+use Rattle.reading.specs.declared.Packet.{Packet}
+use Rattle.reading.specs.Reading.{readRefusal, readRecord}
+use Rattle.reading.specs.Answer.{packetOf}
 use Rattle.follower.specs.declared.Arrival.{Arrival}
 use Rattle.follower.specs.declared.Heard.{Heard}
 use Rattle.follower.specs.declared.Heard.the-variants.{Accepted, Refused}
@@ -40,61 +41,6 @@ ceiling = 4294967295
 -- n and k more, up to the ceiling
 unfoldable pub counted : ℕ → ℕ → ℕ
 counted n k = cond (leb (n + k) ceiling) (n + k) ceiling
-
--- ---- how a packet stands to the one before it
-
--- d: the new CI less the last one, modulo 16
-unfoldable pub stepOf : ℕ → ℕ → ℕ
-stepOf last new = (new + 16 - last % 16) % 16
-
--- FIRST; later, by d and by whether the record is equal to the one held
-unfoldable pub kindOf : Bool → ℕ → Bool → Kind
-kindOf started d equal = cond started (cond (eqb d 0) (cond equal Repeat Conflict) Next) First
-
--- d - 1 for NEXT, and 0 for the other three
-abbrev pub missedOf : Kind → ℕ → ℕ
-missedOf First d = 0
-missedOf Next d = d - 1
-missedOf Repeat d = 0
-missedOf Conflict d = 0
-
--- is it a repeat? 1 or 0
-abbrev pub repeatsIn : Kind → ℕ
-repeatsIn First = 0
-repeatsIn Next = 0
-repeatsIn Repeat = 1
-repeatsIn Conflict = 0
-
--- is it a conflict? 1 or 0
-abbrev pub conflictsIn : Kind → ℕ
-conflictsIn First = 0
-conflictsIn Next = 0
-conflictsIn Repeat = 0
-conflictsIn Conflict = 1
-
--- ---- onsets: the triggers that were 0 in the record held before and are 1 now
-
--- the bit of this weight (1 for b0 to 128 for b7) where it is 1 now and was 0, else 0
-unfoldable pub onsetBit : ℕ → ℕ → ℕ → ℕ
-onsetBit weight old new = cond (eqb (new / weight % 2) 1 && eqb (old / weight % 2) 0) weight 0
-
--- b0 to b7
-unfoldable pub onsetByte : ℕ → ℕ → ℕ
-onsetByte old new =
-    (onsetBit 1 old new + onsetBit 2 old new + onsetBit 4 old new + onsetBit 8 old new)
-    + (onsetBit 16 old new + onsetBit 32 old new + onsetBit 64 old new + onsetBit 128 old new)
-
--- of two records, bytes 30 to 33 (29 to 32 counted from 0): Q1 is bit 0 and Q32 is bit 31
-unfoldable pub onsetsOf : List ℕ → List ℕ → ℕ
-onsetsOf old new =
-    onsetByte (getD old 29 0) (getD new 29 0)
-    + 256 * onsetByte (getD old 30 0) (getD new 30 0)
-    + 65536 * onsetByte (getD old 31 0) (getD new 31 0)
-    + 16777216 * onsetByte (getD old 32 0) (getD new 32 0)
-
--- at FIRST there are none
-unfoldable pub onsetsAfter : Bool → List ℕ → List ℕ → ℕ
-onsetsAfter started old new = cond started (onsetsOf old new) 0
 
 -- ---- a packet that is accepted
 

@@ -1,18 +1,9 @@
 // The follower: the receiver's record and counts. Each packet is the first one, the next one, a repeat or a conflict, or it is refused.
-mod counts;
-mod onsets;
-mod sequence;
-
 ghost use mathlib.Core.Path.{_≡_};
-ghost use Rattle.follower.specs.Follower.{arrivalOf, heldAfter, accepts, refusedAfter, followed, opened};
-
-// How a packet stands to the one accepted before it.
-pub enum Kind {
-    First,
-    Next,
-    Repeat,
-    Conflict,
-}
+ghost use Rattle.follower.specs.Follower.{counted, arrivalOf, heldAfter, accepts, refusedAfter, followed, opened};
+use sequence::Kind;
+use sequence::counts;
+use sequence::onsets;
 
 // What an accepted packet brings: its kind, its index, how many of its words were fixed, how many packets were missed before it, and
 // the triggers that it sets, Q1 in bit 0 to Q32 in bit 31.
@@ -49,6 +40,16 @@ pub struct Followed {
     pub heard: Heard,
 }
 
+// So many more, up to the ceiling.
+fn count(n: u32, more: u32) -> u32
+    ensures { λ r. ⌜ r ≡ counted n more ⌝ }
+{
+    if Follower::CEILING - n < more {
+        return Follower::CEILING;
+    }
+    n + more
+}
+
 impl Follower {
     pub const CEILING: u32 = 4294967295;
 
@@ -73,10 +74,10 @@ impl Follower {
         ensures { λ r. ⌜ r ≡ followed self (now (words .entry)) ⌝ }
     {
         let mut arrived = [0u8; 248];
-        let reading = packet::read_packet_into(words, &mut arrived);
+        let reading = reading::read_packet_into(words, &mut arrived);
         match reading {
-            packet::Reading::Accepted(p) => self.accept(p, arrived),
-            packet::Reading::Refused(why) => Followed {
+            reading::Reading::Accepted(p) => self.accept(p, arrived),
+            reading::Reading::Refused(why) => Followed {
                 follower: self.refuse(),
                 heard: Heard::Refused(why),
             },
@@ -84,7 +85,7 @@ impl Follower {
     }
 
     // What follows on a packet that is accepted.
-    fn accept(self, p: packet::Packet, arrived: [u8; 248]) -> Followed
+    fn accept(self, p: reading::Packet, arrived: [u8; 248]) -> Followed
         ensures { λ r. ⌜ r ≡ accepts self p arrived ⌝ }
     {
         let arrival = self.arrival(p, arrived);
@@ -95,7 +96,7 @@ impl Follower {
     }
 
     // What the packet brings, against the record that is held.
-    fn arrival(self, p: packet::Packet, arrived: [u8; 248]) -> Arrival
+    fn arrival(self, p: reading::Packet, arrived: [u8; 248]) -> Arrival
         ensures { λ r. ⌜ r ≡ arrivalOf self p arrived ⌝ }
     {
         let held = self.rec;
@@ -119,10 +120,10 @@ impl Follower {
             started: true,
             rec: arrived,
             ci: arrival.ci,
-            accepted: counts::count(self.accepted, 1),
-            repeated: counts::count(self.repeated, counts::repeats(kind)),
-            conflicting: counts::count(self.conflicting, counts::conflicts(kind)),
-            missed: counts::count(self.missed, counts::wide(arrival.missed)),
+            accepted: count(self.accepted, 1),
+            repeated: count(self.repeated, counts::repeats(kind)),
+            conflicting: count(self.conflicting, counts::conflicts(kind)),
+            missed: count(self.missed, arrival.missed as u32),
             refused: self.refused,
         }
     }
@@ -140,7 +141,7 @@ impl Follower {
             repeated: self.repeated,
             conflicting: self.conflicting,
             missed: self.missed,
-            refused: counts::count(self.refused, 1),
+            refused: count(self.refused, 1),
         }
     }
 }

@@ -8,9 +8,9 @@ use Rattle.refusal.specs.Chain.{next}
 use Rattle.refusal.specs.Number.{numberOf}
 use Rattle.refusal.specs.declared.Refusal.{Refusal}
 use Rattle.record.specs.Stored.{itemLent}
-use Rattle.packet.specs.declared.Packet.{Packet}
-use Rattle.packet.specs.Reading.{readRefusal, readRecord}
-use Rattle.packet.specs.Answer.{packetOf}
+use Rattle.reading.specs.declared.Packet.{Packet}
+use Rattle.reading.specs.Reading.{readRefusal, readRecord}
+use Rattle.reading.specs.Answer.{packetOf}
 use Rattle.b40.specs.declared.Head.{Head}
 use Rattle.b40.specs.Field.{wordsOf}
 use Rattle.b40.specs.Unpacking.{unpackRefusal, headOf}

@@ -41,7 +41,7 @@ fn refused(why: refusal::Refusal) -> Page
 }
 
 // Correction, CI, fixed.
-fn write_packet(page: Page, p: packet::Packet) -> Page
+fn write_packet(page: Page, p: reading::Packet) -> Page
     ensures { λ r. ⌜ r ≡ written page (packetLine p) ⌝ }
 {
     write_three(
@@ -94,14 +94,14 @@ fn show_packet(head: b40::Head, words: &[u16]) -> Page
     ensures { λ r. ⌜ r ≡ written blank (packetLines head (now (words .entry))) ⌝ }
 {
     let mut rec = [0u8; 248];
-    let reading = packet::read_packet_into(words, &mut rec);
+    let reading = reading::read_packet_into(words, &mut rec);
     match reading {
-        packet::Reading::Accepted(p) => {
+        reading::Reading::Accepted(p) => {
             let p0 = field_line(head);
             let p1 = write_packet(p0, p);
             write_items(p1, &rec)
         }
-        packet::Reading::Refused(why) => refused(why),
+        reading::Reading::Refused(why) => refused(why),
     }
 }
 

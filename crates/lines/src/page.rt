@@ -1,6 +1,5 @@
 // A page of 256 places that text is written on, character by character.
 ghost use mathlib.Core.Path.{_≡_};
-ghost use mathlib.Core.List.{_∷_, []};
 ghost use Prim.Native.Nat.{_<_, _≤_};
 ghost use Rattle.lines.specs.Text.{digit, leading, decimal, hexByte, hexBytes, blank, pushed, written};
 

@@ -8,7 +8,7 @@ use borrow.Fn.Kinds.{Dens, endedOf}
 use contract.Lifetimes.{Lfts}
 use denote.Ref.{now}
 use denote.Triple.Clauses.{AtExit}
-use Rattle.rs.specs.Codeword.{Bytes}
+use Rattle.basics.specs.Below.{Bytes}
 use Rattle.desk.specs.declared.Desk.{Desk}
 use Rattle.desk.specs.declared.Turn.{Turn}
 use Rattle.desk.proofs.Desk.open.Kinds as open-types

@@ -3,12 +3,12 @@
 use mathlib.Core.Path.{_≡_}
 use mathlib.Core.Bool.{Bool, true, false, cond}
 use mathlib.Core.List.{List, [], _++_}
-use mathlib.Core.Option.{Option, none}
+use mathlib.Core.Option.{none}
 use Prim.Native.Nat.{ℕ, _+_, _≤_}
 use lib.ListN.{length, take, drop}
 use Rattle.rs.specs.Decode.{changes}
-use Rattle.packet.specs.Protected.{narrow}
-use Rattle.packet.specs.Reading.{protectedOf}
+use Rattle.anc.specs.Words.{narrow}
+use Rattle.reading.specs.Reading.{protectedOf}
 use Rattle.desk.specs.declared.Desk.{Desk}
 use Rattle.desk.specs.declared.Turn.{Turn}
 use Rattle.desk.specs.Model.{Model, fresh, sendM}

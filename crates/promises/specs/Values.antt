@@ -7,11 +7,11 @@ use Prim.Native.Nat.{ℕ}
 use lib.ListN.{getD, replicate}
 use Rattle.anc.specs.Word.{wordOf}
 use Rattle.rs.specs.Codeword.{parityOf}
-use Rattle.record.specs.Rules.{soundByte, pictureRule, timeByte}
-use Rattle.packet.specs.Protected.{soundWords}
-use Rattle.packet.specs.Layout.{packetWords}
+use Rattle.rules.specs.Rules.{soundByte, pictureRule, timeByte}
+use Rattle.anc.specs.Words.{soundWords}
+use Rattle.writing.specs.Layout.{packetWords}
 use Rattle.desk.specs.Desk.{opening}
-use Rattle.follower.specs.Follower.{stepOf, kindOf, missedOf}
+use Rattle.sequence.specs.Sequence.{stepOf, kindOf, missedOf}
 
 -- the checksum word of a packet
 abbrev pub sumWord : List ℕ → ℕ

@@ -1,6 +1,3 @@
-pub mod Rules
-pub mod Items
-pub mod Checked
+pub mod Record
 pub mod Written
-pub mod Item
 pub mod Stored

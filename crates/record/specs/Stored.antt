@@ -10,8 +10,8 @@ use Rattle.refusal.specs.Chain.{require, next, passed, leftBy}
 use Rattle.refusal.specs.Number.{refusalPlain}
 use Rattle.refusal.specs.declared.Reason.the-variants.{Room}
 use Rattle.refusal.specs.declared.Refusal.{Refusal}
-use Rattle.record.specs.Items.{Row, items}
-use Rattle.record.specs.Item.{rowOf, itemRefusal, cleanOf, itemPart, putItem}
+use Rattle.items.specs.Items.{Row, items}
+use Rattle.items.specs.Item.{rowOf, itemRefusal, cleanOf, itemPart, putItem}
 
 -- the item's part of 248 bytes, or nothing
 unfoldable pub itemLent : ℕ → List ℕ → List ℕ

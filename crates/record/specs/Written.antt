@@ -5,7 +5,7 @@ use mathlib.Core.List.{List}
 use Prim.Native.Nat.{ℕ}
 use lib.Dec.{eqb}
 use lib.ListN.{length}
-use Rattle.record.specs.Items.{recordOf}
+use Rattle.record.specs.Record.{recordOf}
 
 -- is it written?
 unfoldable pub fits : List ℕ → List ℕ → Bool

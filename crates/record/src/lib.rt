@@ -1,23 +1,14 @@
 // The record: the 248 bytes of a packet's items, reserved area and private area. What they are refused for, the record of some bytes,
 // in which every place that isn't read is zero, and the private area as a part of the caller's own bytes.
-mod item;
-mod rules;
-
 ghost use mathlib.Core.Path.{_≡_};
 ghost use lib.ListN.{length};
-ghost use Rattle.record.specs.Items.{recordRefusal, privatePart};
-ghost use Rattle.record.specs.Item.{itemRefusal, placeOf};
-ghost use Rattle.record.specs.Checked.{checkedOf};
+ghost use Rattle.record.specs.Record.{recordRefusal, privatePart};
+ghost use Rattle.refusal.specs.Checked.{checkedOf};
 ghost use Rattle.record.specs.Stored.{itemLent, itemFits, putLeaves, storeRefusal, storeLeaves};
 ghost use Rattle.record.specs.Written.{fits, written};
+use refusal::Checked;
 use refusal::Reason;
-use refusal::Refusal;
-
-// What a check answers.
-pub enum Checked {
-    Passed,
-    Refused(Refusal),
-}
+use refusal::then;
 
 // What the bytes of a record are refused for: another number of them than 248, or the first item whose rule they break.
 pub fn record_refusal(bytes: &[u8]) -> Checked
@@ -26,25 +17,15 @@ pub fn record_refusal(bytes: &[u8]) -> Checked
     if bytes.len() != 248 {
         return Checked::Refused(refusal::plain(Reason::Size));
     }
-    if !rules::station(&bytes[0..8]) {
-        return Checked::Refused(refusal::at(Reason::Station, 1));
-    }
-    if !rules::time(&bytes[8..17]) {
-        return Checked::Refused(refusal::at(Reason::Time, 9));
-    }
-    if !rules::picture(&bytes[17..21]) {
-        return Checked::Refused(refusal::at(Reason::Picture, 18));
-    }
-    if !rules::picture(&bytes[21..25]) {
-        return Checked::Refused(refusal::at(Reason::Picture, 22));
-    }
-    if !rules::sound_byte(bytes[26]) {
-        return Checked::Refused(refusal::at(Reason::Sound, 27));
-    }
-    if !rules::sound_byte(bytes[27]) {
-        return Checked::Refused(refusal::at(Reason::Sound, 28));
-    }
-    Checked::Passed
+    let current_sound = bytes[26];
+    let next_sound = bytes[27];
+    let size = Checked::Passed;
+    let station = then(size, rules::station(&bytes[0..8]), Reason::Station, 1);
+    let time = then(station, rules::time(&bytes[8..17]), Reason::Time, 9);
+    let current = then(time, rules::picture(&bytes[17..21]), Reason::Picture, 18);
+    let next = then(current, rules::picture(&bytes[21..25]), Reason::Picture, 22);
+    let sound = then(next, rules::sound_byte(current_sound), Reason::Sound, 27);
+    then(sound, rules::sound_byte(next_sound), Reason::Sound, 28)
 }
 
 // Writes the record of 248 bytes over a buffer of 248: true; or leaves it as it was: false.
@@ -90,58 +71,11 @@ pub fn private_part(bytes: &[u8]) -> &[u8]
     }
 }
 
-// Where an item stands: its first byte, counted from 1, and how many it has; 0 and 0 where there is no such item.
-pub struct ItemPlace {
-    pub first: usize,
-    pub length: usize,
-}
-
-const FIRST: [usize; 13] = [0, 1, 9, 18, 22, 26, 27, 28, 29, 30, 34, 38, 42];
-
-const LENGTH: [usize; 13] = [0, 8, 9, 4, 4, 1, 1, 1, 1, 4, 4, 4, 2];
-
-pub fn item_place(number: u8) -> ItemPlace
-    ensures { λ r. ⌜ r ≡ placeOf number ⌝ }
-{
-    if 12 < number {
-        return ItemPlace {
-            first: 0,
-            length: 0,
-        };
-    }
-    let at = number as usize;
-    ItemPlace {
-        first: FIRST[at],
-        length: LENGTH[at],
-    }
-}
-
-// What the bytes given for an item are refused for: no such item, another number of bytes than it has, or its rule.
-pub fn item_refusal(number: u8, bytes: &[u8]) -> Checked
-    ensures { λ r. ⌜ r ≡ checkedOf (itemRefusal number (now (bytes .entry))) ⌝ }
-{
-    if number == 0 {
-        return Checked::Refused(refusal::plain(Reason::Item));
-    }
-    if 12 < number {
-        return Checked::Refused(refusal::plain(Reason::Item));
-    }
-    let place = item_place(number);
-    let length = place.length;
-    if bytes.len() != length {
-        return Checked::Refused(refusal::plain(Reason::Size));
-    }
-    if !item::rule(number, bytes) {
-        return Checked::Refused(refusal::at(item::reason(number), place.first as u8));
-    }
-    Checked::Passed
-}
-
 // The item's part of 248 bytes; an empty part where there is no such item, or another number of bytes.
 pub fn item_part(number: u8, bytes: &[u8]) -> &[u8]
     ensures { λ r. ⌜ now r ≡ itemLent number (now (bytes .entry)) ⌝ }
 {
-    let place = item_place(number);
+    let place = items::item_place(number);
     let first = place.first;
     let length = place.length;
     if bytes.len() != 248 {
@@ -158,7 +92,7 @@ pub fn item_part(number: u8, bytes: &[u8]) -> &[u8]
 pub fn put_item(number: u8, bytes: &[u8], out: &mut [u8]) -> bool
     ensures { λ r. ⌜ (r ≡ itemFits number (now (bytes .entry)) (now (out .entry))) × (now (out .exit) ≡ putLeaves number (now (bytes .entry)) (now (out .entry))) ⌝ }
 {
-    let place = item_place(number);
+    let place = items::item_place(number);
     let first = place.first;
     let length = place.length;
     if first == 0 {
@@ -179,7 +113,7 @@ pub fn put_item(number: u8, bytes: &[u8], out: &mut [u8]) -> bool
 pub fn store_item(number: u8, bytes: &[u8], out: &mut [u8]) -> Checked
     ensures { λ r. ⌜ (r ≡ checkedOf (storeRefusal number (now (bytes .entry)) (length (now (out .entry))))) × (now (out .exit) ≡ storeLeaves number (now (bytes .entry)) (now (out .entry))) ⌝ }
 {
-    let checked = item_refusal(number, bytes);
+    let checked = items::item_refusal(number, bytes);
     match checked {
         Checked::Refused(why) => return Checked::Refused(why),
         Checked::Passed => {}
@@ -187,7 +121,7 @@ pub fn store_item(number: u8, bytes: &[u8], out: &mut [u8]) -> Checked
     if out.len() != 248 {
         return Checked::Refused(refusal::plain(Reason::Room));
     }
-    if item::is_picture(number) {
+    if items::is_picture(number) {
         let mode = rules::picture_clean(bytes);
         put_item(number, &mode, out);
         return Checked::Passed;

@@ -1,6 +1,9 @@
-// The refusals: why a call says no, and at which byte. Every crate that can refuse answers with these.
+// The refusals: why a call says no, and at which byte. Every crate that can refuse answers with these, and its checks follow one another
+// by `then`.
 ghost use mathlib.Core.Path.{_≡_};
 ghost use Rattle.refusal.specs.Number.{numberOf, refusalAt, refusalPlain};
+ghost use Rattle.refusal.specs.Chain.{require, passed, next};
+ghost use Rattle.refusal.specs.Checked.{checkedOf, refusalIn};
 
 // One case for each number on the fixed list, in the list's order.
 pub enum Reason {
@@ -76,4 +79,26 @@ pub fn at(reason: Reason, place: u8) -> Refusal
     ensures { λ r. ⌜ r ≡ refusalAt reason place ⌝ }
 {
     Refusal { reason, place }
+}
+
+// What a check answers.
+pub enum Checked {
+    Passed,
+    Refused(Refusal),
+}
+
+// One check more: a refusal that was given stands, else the test decides.
+pub fn then(earlier: Checked, ok: bool, reason: Reason, place: u8) -> Checked
+    ensures { λ r. ⌜ r ≡ checkedOf (next (refusalIn earlier) (require ok (refusalAt reason place) passed)) ⌝ }
+{
+    match earlier {
+        Checked::Refused(first) => Checked::Refused(first),
+        Checked::Passed => {
+            if ok {
+                Checked::Passed
+            } else {
+                Checked::Refused(Refusal { reason, place })
+            }
+        }
+    }
 }

@@ -4,9 +4,10 @@
 use mathlib.Core.Path.{_≡_}
 use mathlib.Core.Bool.{cond}
 use mathlib.Core.List.{List, [], _∷_, _++_}
-use Prim.Native.Nat.{ℕ, _<_}
+use Prim.Native.Nat.{ℕ}
 use lib.Dec.{eqb}
 use lib.ListN.{length, take, drop}
+use Rattle.basics.specs.Below.{Bytes}
 use Rattle.gf256.specs.Field.{_⊕_}
 use Rattle.rs.specs.Polynomial.{_⊞_, scale, zeros}
 
@@ -36,11 +37,6 @@ parityOf d = remainder divisorBytes (zeros 6) d
 -- what the division leaves of a block of 254 bytes: the parity of the first 248, with the last six added; of another number, six zeros
 unfoldable pub leftOf : List ℕ → List ℕ
 leftOf block = cond (eqb (length block) 254) (parityOf (take 248 block) ⊞ drop 248 block) (zeros 6)
-
--- each entry is a byte
-abbrev pub Bytes : List ℕ → Type 0
-Bytes [] = Unit {0}
-Bytes (b ∷ l) = (b < 256) × Bytes l
 
 -- 254 bytes of which the last six are the parity of the 248 before them
 pub record Codeword (w : List ℕ) : Type 0 where

@@ -10,10 +10,10 @@ pub(crate) fn fixed_with(a: usize, b: usize, c: usize) -> u64 {
     day::change(&mut words, a, 0x000);
     day::change(&mut words, b, 0x001);
     day::change(&mut words, c, 0x3FF);
-    let reading = packet::read_packet(&words);
+    let reading = reading::read_packet(&words);
     match reading {
-        packet::Reading::Accepted(p) => p.fixed as u64,
-        packet::Reading::Refused(_) => 255,
+        reading::Reading::Accepted(p) => p.fixed as u64,
+        reading::Reading::Refused(_) => 255,
     }
 }
 
@@ -45,8 +45,8 @@ pub(crate) fn undos_after(edits: usize) -> Undone {
         let turn = desk.undo();
         let checked = turn.checked;
         match checked {
-            record::Checked::Passed => {}
-            record::Checked::Refused(why) => {
+            refusal::Checked::Passed => {}
+            refusal::Checked::Refused(why) => {
                 let reason = why.reason;
                 return Undone {
                     count,

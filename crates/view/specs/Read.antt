@@ -5,8 +5,8 @@ use mathlib.Core.Option.{Option, none, some}
 use Prim.Native.Nat.{ℕ}
 use lib.ListN.{replicate}
 use Rattle.refusal.specs.declared.Refusal.{Refusal}
-use Rattle.record.specs.Items.{recordRefusal}
-use Rattle.record.specs.Checked.{checkedOf}
+use Rattle.record.specs.Record.{recordRefusal}
+use Rattle.refusal.specs.Checked.{checkedOf}
 use Rattle.view.specs.View.{viewOf}
 use Rattle.view.specs.declared.RecordRead.{RecordRead}
 use Rattle.view.specs.declared.RecordView.{RecordView}

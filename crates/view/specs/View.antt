@@ -5,7 +5,7 @@ use mathlib.Core.List.{List, [], _∷_, flatten}
 use Prim.Native.Nat.{ℕ, _+_, _*_, _/_, _%_, _^_}
 use lib.Dec.{eqb}
 use lib.ListN.{take, getD}
-use Rattle.record.specs.Rules.{decimal, lowHalf}
+use Rattle.rules.specs.Rules.{decimal, lowHalf}
 use Rattle.view.specs.declared.TimeWord.{TimeWord}
 use Rattle.view.specs.declared.TimeWord.the-variants.{Sent, Unsent}
 use Rattle.view.specs.declared.Milliseconds.{Milliseconds}

@@ -5,11 +5,11 @@ ghost use mathlib.Core.Bool.{_&&_};
 ghost use Prim.Native.Nat.{_+_, _*_};
 ghost use lib.Dec.{eqb};
 ghost use lib.ListN.{length, take};
-ghost use Rattle.record.specs.Rules.{decimal};
+ghost use Rattle.rules.specs.Rules.{decimal};
 ghost use Rattle.view.specs.View.{timeWordOf, millisecondsOf, timeOf, pictureOf, soundOf, countdownOf, counterOf};
 ghost use Rattle.view.specs.View.{countersOf, countdownsOf, pairOf, quadOf, viewOf};
 ghost use Rattle.view.specs.Read.{recordReadOf};
-use record::Checked;
+use refusal::Checked;
 
 // A byte of the time: the number that it stands for.
 pub enum TimeWord {

@@ -3,47 +3,22 @@
 use mathlib.Core.Path.{_≡_, refl, sym, ap, ap₂, subst, _∙_}
 use mathlib.Core.List.{List, [], _∷_, _++_, append-assoc, append-nil}
 use Prim.Native.Nat.{ℕ, zero, suc, _+_, _*_, _/_, _%_, _^_, _≤_, _<_}
-use native.Mathlib.Nat.{not-suc-le-zero, le-of-suc-le-suc, mul-zero, mul-suc, mul-assoc, mul-comm, zero-add, suc-add, pow-succ', one-le-pow, mul-add-div-right, div-eq-of-lt, mul-le-mul-right}
+use native.Mathlib.Nat.{mul-zero, mul-suc, mul-assoc, mul-comm, zero-add, suc-add, pow-succ', one-le-pow, mul-add-div-right, div-eq-of-lt, mul-le-mul-right}
 use native.Mathlib.Omega.{arith}
 use lib.Dec.{lit<}
-use lib.ListN.{length, getD, take, drop, length-drop, replicate}
+use lib.ListN.{length, take, drop, length-drop}
+use lib.Pow.{split, high}
 use lib.Seq.{take-add, take-at, drop-at, length-take-le}
 use Rattle.anc.specs.Word.{bit}
 use Rattle.anc.proofs.Laws.Bits.{bit-lt, bit-half}
+use Rattle.basics.specs.Below.{Below}
+use Rattle.basics.proofs.Laws.Below.{append-below, drop-below, take-below}
 use Rattle.basics.proofs.Laws.Parts.{same-cons}
 use Rattle.b40.specs.Field.{bits, bitsEach, numberOf, numbers}
-use Rattle.b40.proofs.Laws.Bits.{bits-length, number-more}
+use Rattle.b40.proofs.Laws.Bits.{bits-length, bits-split, number-append}
 
--- ---- each entry is below a bound
+-- ---- bits are below 2
 
-abbrev pub Below : ℕ → List ℕ → Type 0
-Below n [] = Unit {0}
-Below n (x ∷ l) = (x < n) × Below n l
-
-pub below-append : (n : ℕ) (l m : List ℕ) → Below n l → Below n m → Below n (l ++ m)
-below-append n [] m p q = q
-below-append n (x ∷ l) m p q = (p .0, below-append n l m (p .1) q)
-
-pub below-drop : (n k : ℕ) (l : List ℕ) → Below n l → Below n (drop k l)
-below-drop n zero l p = p
-below-drop n (suc k) [] p = p
-below-drop n (suc k) (x ∷ l) p = below-drop n k l (p .1)
-
-pub below-take : (n k : ℕ) (l : List ℕ) → Below n l → Below n (take k l)
-below-take n zero l p = tt
-below-take n (suc k) [] p = p
-below-take n (suc k) (x ∷ l) p = (p .0, below-take n k l (p .1))
-
-pub below-at : (n : ℕ) (l : List ℕ) (i : ℕ) → Below n l → i < length l → getD l i 0 < n
-below-at n [] i p h = absurd (not-suc-le-zero h)
-below-at n (x ∷ l) zero p h = p .0
-below-at n (x ∷ l) (suc i) p h = below-at n l i (p .1) (le-of-suc-le-suc h)
-
-pub below-replicate : (n k v : ℕ) → v < n → Below n (replicate k v)
-below-replicate n zero v h = tt
-below-replicate n (suc k) v h = (h, below-replicate n k v h)
-
--- bits are 0 or 1
 pub bits-below : (n m : ℕ) → Below 2 (bits n m)
 unfolding bits
 bits-below zero m = tt
@@ -52,7 +27,7 @@ bits-below (suc n) m = (bit-lt n m, bits-below n m)
 pub each-below : (n : ℕ) (l : List ℕ) → Below 2 (bitsEach n l)
 unfolding bitsEach
 each-below n [] = tt
-each-below n (m ∷ l) = below-append 2 (bits n m) (bitsEach n l) (bits-below n m) (each-below n l)
+each-below n (m ∷ l) = append-below 2 (bits n m) (bitsEach n l) (bits-below n m) (each-below n l)
 
 -- ---- a number, its bits, and the number again
 
@@ -66,7 +41,7 @@ unfolding numberOf bits
 number-bits zero m h = omega arith
 number-bits (suc n) m h =
     let half : numberOf (bits n (m / 2)) ≡ m / 2 = number-bits n (m / 2) (omega (arith, pow-succ' 2 n)) in
-    ap numberOf (bits-half n m) ∙ number-more (bits n (m / 2)) (m % 2) ∙ omega arith
+    ap numberOf (bits-half n m) ∙ number-append (bits n (m / 2)) (m % 2 ∷ []) ∙ omega arith
 
 -- ---- bits, their number, and the bits again
 
@@ -92,6 +67,15 @@ bits-high (suc n) a m =
     let e : a * 2 ^ suc n ≡ 2 * a * 2 ^ n = ap (λ (x : ℕ). a * x) (pow-succ' 2 n) ∙ sym (mul-assoc a 2 (2 ^ n)) ∙ ap (λ (x : ℕ). x * 2 ^ n) (mul-comm a 2) in
     ap (λ (x : ℕ). bit n (x + m) ∷ bits n (x + m)) e ∙ same-cons (bit-high n a m) (bits-high n (2 * a) m)
 
+-- the n low bits of a number are those of its remainder
+pub bits-low : (n m : ℕ) → bits n (m % 2 ^ n) ≡ bits n m
+bits-low n m = sym (bits-high n (m / 2 ^ n) (m % 2 ^ n)) ∙ ap (bits n) (split m n)
+
+-- the bits of two numbers, one behind the other, are those of one
+pub bits-join : (a b x m : ℕ) → m < 2 ^ b → bits a x ++ bits b m ≡ bits (a + b) (x * 2 ^ b + m)
+bits-join a b x m h =
+    sym (bits-split a b (x * 2 ^ b + m) ∙ ap₂ (λ (l r : List ℕ). l ++ r) (ap (bits a) (high x b h)) (bits-high b x m))
+
 top-bit : (n b m : ℕ) → b < 2 → m < 2 ^ n → bit n (b * 2 ^ n + m) ≡ b
 unfolding bit
 top-bit n b m h k =
@@ -108,14 +92,14 @@ bits-number (b ∷ l) p =
 
 -- the first n of some bits
 pub run-back : (n : ℕ) (l : List ℕ) → Below 2 l → n ≤ length l → bits n (numberOf (take n l)) ≡ take n l
-run-back n l p h = ap (λ (k : ℕ). bits k (numberOf (take n l))) (sym (length-take-le n l h)) ∙ bits-number (take n l) (below-take 2 n l p)
+run-back n l p h = ap (λ (k : ℕ). bits k (numberOf (take n l))) (sym (length-take-le n l h)) ∙ bits-number (take n l) (take-below 2 n l p)
 
 pub each-numbers : (k n : ℕ) (l : List ℕ) → Below 2 l → n * k ≤ length l → bitsEach n (numbers k n l) ≡ take (n * k) l
 unfolding bitsEach numbers
 each-numbers zero n l p h = ap (λ (x : ℕ). take x l) (sym (mul-zero n))
 each-numbers (suc k) n l p h =
     let e : n + n * k ≡ n * suc k = omega (arith, mul-suc n k) in
-    ap₂ (λ (x y : List ℕ). x ++ y) (run-back n l p (omega arith)) (each-numbers k n (drop n l) (below-drop 2 n l p) (omega (arith, length-drop n l)))
+    ap₂ (λ (x y : List ℕ). x ++ y) (run-back n l p (omega arith)) (each-numbers k n (drop n l) (drop-below 2 n l p) (omega (arith, length-drop n l)))
     ∙ sym (take-add n (n * k) l) ∙ ap (λ (x : ℕ). take x l) e
 
 -- numbers of n bits, and k more behind them
@@ -137,13 +121,13 @@ numbers-back k n l r e p =
 
 -- a number that n bits spell has n bits
 pub run-lt : (n : ℕ) (l : List ℕ) → Below 2 l → n ≤ length l → numberOf (take n l) < 2 ^ n
-run-lt n l p h = subst (λ (k : ℕ). numberOf (take n l) < 2 ^ k) (length-take-le n l h) (number-lt (take n l) (below-take 2 n l p))
+run-lt n l p h = subst (λ (k : ℕ). numberOf (take n l) < 2 ^ k) (length-take-le n l h) (number-lt (take n l) (take-below 2 n l p))
 
 pub numbers-below : (k n : ℕ) (l : List ℕ) → Below 2 l → n * k ≤ length l → Below (2 ^ n) (numbers k n l)
 unfolding numbers
 numbers-below zero n l p h = tt
 numbers-below (suc k) n l p h =
-    (run-lt n l p (omega (arith, mul-suc n k)), numbers-below k n (drop n l) (below-drop 2 n l p) (omega (arith, mul-suc n k, length-drop n l)))
+    (run-lt n l p (omega (arith, mul-suc n k)), numbers-below k n (drop n l) (drop-below 2 n l p) (omega (arith, mul-suc n k, length-drop n l)))
 
 -- one list of numbers behind another
 pub each-append : (n : ℕ) (l m : List ℕ) → bitsEach n (l ++ m) ≡ bitsEach n l ++ bitsEach n m

@@ -1,14 +1,15 @@
--- Numbers as bits and bits as numbers: how many there are, what stands at each place, and that each way leads back.
+-- Numbers as bits and bits as numbers: how many there are, what stands at each place, and one run of bits behind another.
 -- Assumes nothing.
 use mathlib.Core.Path.{_≡_, refl, sym, ap, ap₂, _∙_}
 use mathlib.Core.List.{List, [], _∷_, _++_}
-use Prim.Native.Nat.{ℕ, zero, suc, _+_, _*_, _^_, _≤_, _<_}
-use native.Mathlib.Nat.{mul-zero, mul-suc, mul-assoc, mul-comm, add-comm, pow-succ', le-of-suc-le-suc, not-suc-le-zero, pow-le-pow-right, zero-add}
-use native.Mathlib.Numerals.{add-one}
+use Prim.Native.Nat.{ℕ, zero, suc, _+_, _*_, _/_, _%_, _^_, _≤_, _<_}
+use native.Mathlib.Nat.{mul-zero, zero-mul, mul-suc, mul-assoc, add-comm, add-assoc, add-mul, zero-add, suc-add, le-of-suc-le-suc, not-suc-le-zero}
 use native.Mathlib.Omega.{arith}
-use lib.ListN.{length, getD, take, drop, length-append, List·getD-append, length-drop}
-use lib.Seq.{getD-append-add, drop-drop, take-suc, getD-drop}
+use lib.ListN.{length, getD, take, drop, length-append, length-drop}
+use lib.Pow.{pow-add, shr-shr}
+use lib.Seq.{drop-nil, drop-drop, take-nil, take-append-add, take-append-le, drop-append-le}
 use Rattle.anc.specs.Word.{bit}
+use Rattle.basics.proofs.Laws.Parts.{same-cons, skip}
 use Rattle.b40.specs.Field.{bits, bitsEach, numberOf, numbers}
 
 -- ---- how many there are
@@ -31,25 +32,6 @@ numbers-length (suc k) n l = ap suc (numbers-length k n (drop n l))
 
 -- ---- what stands at a place
 
--- in the bits of a number, bit i has i bits behind it
-pub bits-at : (n m i j : ℕ) → suc (i + j) ≡ n → getD (bits n m) j 0 ≡ bit i m
-unfolding bits
-bits-at zero m i j e = absurd (omega arith)
-bits-at (suc n) m i zero e = let k : n ≡ i = omega arith in ap (λ (x : ℕ). bit x m) k
-bits-at (suc n) m i (suc j) e = bits-at n m i j (omega arith)
-
--- behind i numbers of n bits
-pub each-at : (n : ℕ) (l : List ℕ) (i j : ℕ) → i < length l → j < n → getD (bitsEach n l) (n * i + j) 0 ≡ getD (bits n (getD l i 0)) j 0
-unfolding bitsEach
-each-at n [] i j h k = absurd (not-suc-le-zero h)
-each-at n (m ∷ l) zero j h k =
-    let e : n * 0 + j ≡ j = ap (λ (x : ℕ). x + j) (mul-zero n) ∙ zero-add j in
-    ap (λ (x : ℕ). getD (bits n m ++ bitsEach n l) x 0) e ∙ List·getD-append (bits n m) (bitsEach n l) 0 j (omega (arith, bits-length n m))
-each-at n (m ∷ l) (suc i) j h k =
-    let e : n * suc i + j ≡ length (bits n m) + (n * i + j) = omega (arith, mul-suc n i, bits-length n m) in
-    ap (λ (x : ℕ). getD (bits n m ++ bitsEach n l) x 0) e ∙ getD-append-add (bits n m) (bitsEach n l) (n * i + j) 0
-    ∙ each-at n l i j (le-of-suc-le-suc h) k
-
 pub numbers-at : (k n : ℕ) (l : List ℕ) (i : ℕ) → i < k → getD (numbers k n l) i 0 ≡ numberOf (take n (drop (n * i) l))
 unfolding numbers
 numbers-at zero n l i h = absurd (not-suc-le-zero h)
@@ -58,33 +40,55 @@ numbers-at (suc k) n l (suc i) h =
     let e : n + n * i ≡ n * suc i = omega (arith, mul-suc n i) in
     numbers-at k n (drop n l) i (le-of-suc-le-suc h) ∙ ap (λ (x : List ℕ). numberOf (take n x)) (drop-drop (n * i) n l ∙ ap (λ (x : ℕ). drop x l) e)
 
--- ---- one bit more behind the others
+-- behind the bits of the first w numbers
+pub each-drop : (n w : ℕ) (l : List ℕ) → drop (n * w) (bitsEach n l) ≡ bitsEach n (drop w l)
+unfolding bitsEach
+each-drop n zero l = ap (λ (x : ℕ). drop x (bitsEach n l)) (mul-zero n)
+each-drop n (suc w) [] = drop-nil (n * suc w)
+each-drop n (suc w) (m ∷ l) =
+    let e : n * suc w ≡ n + n * w = omega (arith, mul-suc n w) in
+    ap (λ (x : ℕ). drop x (bits n m ++ bitsEach n l)) e ∙ skip (bits n m) (bitsEach n l) n (n * w) (bits-length n m) ∙ each-drop n w l
 
-twice : (b p : ℕ) → b * (2 * p) ≡ 2 * (b * p)
-twice b p = sym (mul-assoc b 2 p) ∙ ap (λ (x : ℕ). x * p) (mul-comm b 2) ∙ mul-assoc 2 b p
+-- the bits of the first w numbers
+pub each-take : (n w : ℕ) (l : List ℕ) → take (n * w) (bitsEach n l) ≡ bitsEach n (take w l)
+unfolding bitsEach
+each-take n zero l = ap (λ (x : ℕ). take x (bitsEach n l)) (mul-zero n)
+each-take n (suc w) [] = take-nil (n * suc w)
+each-take n (suc w) (m ∷ l) =
+    let e : n * suc w ≡ length (bits n m) + n * w = omega (arith, mul-suc n w, bits-length n m) in
+    ap (λ (x : ℕ). take x (bits n m ++ bitsEach n l)) e ∙ take-append-add (bits n m) (bitsEach n l) (n * w)
+    ∙ ap (λ (x : List ℕ). bits n m ++ x) (each-take n w l)
 
-more-sum : (b p v w x y : ℕ) → y ≡ b * (2 * p) → v ≡ 2 * w + x → y + v ≡ 2 * (b * p + w) + x
-more-sum b p v w x y e f = omega (arith, twice b p)
+-- ---- one run of bits behind another
 
-pub number-more : (l : List ℕ) (b : ℕ) → numberOf (l ++ b ∷ []) ≡ 2 * numberOf l + b
+append-sum : (x a b v w t : ℕ) → t ≡ x * (a * b) → t + (v * b + w) ≡ (x * a + v) * b + w
+append-sum x a b v w t e =
+    ap (λ (y : ℕ). y + (v * b + w)) (e ∙ sym (mul-assoc x a b)) ∙ sym (add-assoc (x * a * b) (v * b) w) ∙ ap (λ (y : ℕ). y + w) (sym (add-mul (x * a) v b))
+
+pub number-append : (l m : List ℕ) → numberOf (l ++ m) ≡ numberOf l * 2 ^ length m + numberOf m
 unfolding numberOf
-number-more [] b = omega arith
-number-more (x ∷ l) b =
-    let e : length (l ++ b ∷ []) ≡ suc (length l) = length-append l (b ∷ []) ∙ add-one (length l) in
-    more-sum x (2 ^ length l) (numberOf (l ++ b ∷ [])) (numberOf l) b _ (ap (λ (n : ℕ). x * 2 ^ n) e ∙ ap (λ (y : ℕ). x * y) (pow-succ' 2 (length l))) (number-more l b)
+number-append [] m = sym (ap (λ (x : ℕ). x + numberOf m) (zero-mul (2 ^ length m)) ∙ zero-add (numberOf m))
+number-append (x ∷ l) m =
+    let e : 2 ^ length (l ++ m) ≡ 2 ^ length l * 2 ^ length m = ap (λ (n : ℕ). 2 ^ n) (length-append l m) ∙ pow-add 2 (length l) (length m) in
+    ap (λ (y : ℕ). x * 2 ^ length (l ++ m) + y) (number-append l m)
+    ∙ append-sum x (2 ^ length l) (2 ^ length m) (numberOf l) (numberOf m) (x * 2 ^ length (l ++ m)) (ap (λ (y : ℕ). x * y) e)
 
--- in a run of bits, from the given place on
-pub number-step : (l : List ℕ) (from j : ℕ) → from + j < length l
-    → numberOf (take (j + 1) (drop from l)) ≡ 2 * numberOf (take j (drop from l)) + getD l (from + j) 0
-number-step l from j h =
-    ap (λ (n : ℕ). numberOf (take n (drop from l))) (add-one j)
-    ∙ ap numberOf (take-suc (drop from l) j 0 (omega (arith, length-drop from l)))
-    ∙ number-more (take j (drop from l)) (getD (drop from l) j 0)
-    ∙ ap (λ (b : ℕ). 2 * numberOf (take j (drop from l)) + b) (getD-drop from l j 0)
+bit-split : (a b m : ℕ) → bit (a + b) m ≡ bit a (m / 2 ^ b)
+unfolding bit
+bit-split a b m = ap (λ (n : ℕ). m / 2 ^ n % 2) (add-comm a b) ∙ ap (λ (x : ℕ). x % 2) (sym (shr-shr m b a))
 
--- the number that j bits spell has room for one bit more
-pub room-more : (j v b : ℕ) → v < 2 ^ j → b < 2 → 2 * v + b < 2 ^ (j + 1)
-room-more j v b h k = rw (add-one, pow-succ' 2 j) (omega arith)
+-- the upper a bits of a number, and then the lower b
+pub bits-split : (a b m : ℕ) → bits (a + b) m ≡ bits a (m / 2 ^ b) ++ bits b m
+unfolding bits
+bits-split zero b m = ap (λ (n : ℕ). bits n m) (zero-add b)
+bits-split (suc a) b m = ap (λ (n : ℕ). bits n m) (suc-add a b) ∙ same-cons (bit-split a b m) (bits-split a b m)
 
-pub room : (j n v : ℕ) → v < 2 ^ j → j ≤ n → v < 2 ^ n
-room j n v h k = omega (arith, pow-le-pow-right {n = 2} (omega arith) k)
+-- numbers that lie within the first run
+pub numbers-front : (k n : ℕ) (l m : List ℕ) → n * k ≤ length l → numbers k n (l ++ m) ≡ numbers k n l
+unfolding numbers
+numbers-front zero n l m h = refl
+numbers-front (suc k) n l m h =
+    let e : n + n * k ≤ length l = omega (arith, mul-suc n k) in
+    let g : n ≤ length l = omega arith in
+    same-cons (ap numberOf (take-append-le n l m g))
+    (ap (numbers k n) (drop-append-le n l m g) ∙ numbers-front k n (drop n l) m (omega (arith, length-drop n l)))

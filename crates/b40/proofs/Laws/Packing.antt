@@ -1,22 +1,23 @@
--- What packing answers and leaves in each case of its checks, and what its answers say.
+-- What packing answers and leaves by its checks, what it accepts, and what its answers say.
 -- Assumes nothing.
 use mathlib.Core.Path.{_≡_, refl, sym, ap}
-use mathlib.Core.Bool.{Bool, true, false}
+use mathlib.Core.Bool.{Bool, true}
 use mathlib.Core.List.{List}
 use mathlib.Core.Option.{Option, none, some}
 use Prim.Native.Nat.{ℕ}
-use borrow.Author.Tests.{eq-eqb, ne-eqb}
+use borrow.Author.Tests.{eqb-true}
 use lib.ListN.{length, take}
-use Rattle.basics.specs.Each.{same}
 use Rattle.refusal.specs.Chain.{leftBy}
-use Rattle.refusal.specs.Number.{refusalPlain}
-use Rattle.refusal.specs.declared.Reason.the-variants.{Length, Wide, Flag, FieldHead, Room}
+use Rattle.refusal.specs.Checked.{checkedOf}
+use Rattle.refusal.specs.declared.Checked.{Checked}
+use Rattle.refusal.specs.declared.Checked.the-variants.{Passed, Refused as RefusedCheck}
 use Rattle.refusal.specs.declared.Refusal.{Refusal}
-use Rattle.packet.specs.Protected.{narrow}
-use Rattle.packet.specs.Layout.{flag}
-use Rattle.packet.specs.Written.{refusalIn, writtenBy}
-use Rattle.packet.specs.declared.Written.{Written}
-use Rattle.packet.specs.declared.Written.the-variants.{Done, Refused}
+use Rattle.refusal.proofs.Laws.Chain.{told, require-passed}
+use Rattle.anc.specs.Words.{flag, narrow}
+use Rattle.anc.proofs.Laws.Words.{flag-words}
+use Rattle.writing.specs.Written.{refusalIn, writtenBy}
+use Rattle.writing.specs.declared.Written.{Written}
+use Rattle.writing.specs.declared.Written.the-variants.{Done, Refused}
 use Rattle.b40.specs.Field.{isPlace, fieldOf}
 use Rattle.b40.specs.Packing.{packRefusal, packedOf, packLeaves}
 
@@ -33,33 +34,39 @@ module _ (yc : Bool) (line offset : ℕ) (words old : List ℕ) where
     kept = sym (ap (λ (p : Option Refusal). leftBy p (fieldOf yc line offset words) old) e);
   }
 
-  pub wrong-length : (length words ≡ 262 → ⊥) → Packed yc line offset words old (Refused (refusalPlain Length)) old
-  unfolding packRefusal
-  wrong-length n = answer (some (refusalPlain Length)) (simp (ne-eqb (length words) 262 n))
+  -- by what the checks said
+  module _ (said : Checked) (e : said ≡ checkedOf (packRefusal line offset words (length old))) where
+    pub not-packed : (why : Refusal) → said ≡ RefusedCheck why → Packed yc line offset words old (Refused why) old
+    not-packed why s = answer (some why) (told _ said (RefusedCheck why) e s)
 
-  module _ (n : length words ≡ 262) where
-    pub too-wide : narrow words ≡ false → Packed yc line offset words old (Refused (refusalPlain Wide)) old
-    unfolding packRefusal
-    too-wide w = answer (some (refusalPlain Wide)) (simp (eq-eqb (length words) 262 n, w))
+    pub all-passed : said ≡ Passed → packRefusal line offset words (length old) ≡ none
+    all-passed s = told _ said Passed e s
 
-    module _ (w : narrow words ≡ true) where
-      pub no-flag : same (take 3 words) flag ≡ false → Packed yc line offset words old (Refused (refusalPlain Flag)) old
-      unfolding packRefusal
-      no-flag f = answer (some (refusalPlain Flag)) (simp (eq-eqb (length words) 262 n, w, f))
+    pub packed : said ≡ Passed → Packed yc line offset words old Done (fieldOf yc line offset words)
+    packed s = answer none (all-passed s)
 
-      module _ (f : same (take 3 words) flag ≡ true) where
-        pub no-place : isPlace line offset ≡ false → Packed yc line offset words old (Refused (refusalPlain FieldHead)) old
-        unfolding packRefusal
-        no-place p = answer (some (refusalPlain FieldHead)) (simp (eq-eqb (length words) 262 n, w, f, p))
+-- what packing accepts
+pub record Accepts (line offset : ℕ) (words : List ℕ) (room : ℕ) : Type 0 where
+  pub long : length words ≡ 262
+  pub tens : narrow words ≡ true
+  pub flagged : take 3 words ≡ flag
+  pub place : isPlace line offset ≡ true
+  pub roomy : room ≡ 328
 
-        module _ (p : isPlace line offset ≡ true) where
-          pub wrong-room : (length old ≡ 328 → ⊥) → Packed yc line offset words old (Refused (refusalPlain Room)) old
-          unfolding packRefusal
-          wrong-room m = answer (some (refusalPlain Room)) (simp (eq-eqb (length words) 262 n, w, f, p, ne-eqb (length old) 328 m))
-
-          pub all-right : length old ≡ 328 → Packed yc line offset words old Done (fieldOf yc line offset words)
-          unfolding packRefusal
-          all-right m = answer none (simp (eq-eqb (length words) 262 n, w, f, p, eq-eqb (length old) 328 m))
+pub accepts : (line offset : ℕ) (words : List ℕ) (room : ℕ) → packRefusal line offset words room ≡ none → Accepts line offset words room
+unfolding packRefusal
+accepts line offset words room ok =
+    let a = require-passed _ _ _ ok in
+    let b = require-passed _ _ _ (a .1) in
+    let d = require-passed _ _ _ (b .1) in
+    let p = require-passed _ _ _ (d .1) in
+    record {
+      long = eqb-true (length words) 262 (a .0);
+      tens = b .0;
+      flagged = flag-words words (d .0);
+      place = p .0;
+      roomy = eqb-true room 328 (require-passed _ _ _ (p .1) .0);
+    }
 
 -- the refusal that an answer tells is the one that the rules give
 pub refusal-said : (line offset : ℕ) (words : List ℕ) (room : ℕ) → refusalIn (packedOf line offset words room) ≡ packRefusal line offset words room

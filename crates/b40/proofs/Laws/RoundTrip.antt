@@ -1,61 +1,33 @@
 -- Packing and unpacking lead back: what is packed is unpacked again, and what is unpacked is packed again, but for the pad.
 -- Assumes nothing.
 use mathlib.Core.Path.{_≡_, refl, sym, ap, ap₂, subst, _∙_}
-use mathlib.Core.Bool.{Bool, true, false, cond, _&&_}
+use mathlib.Core.Bool.{Bool, true, false, cond}
 use mathlib.Core.List.{List, [], _∷_, _++_, append-assoc}
 use mathlib.Core.Option.{none}
 use Prim.Native.Nat.{ℕ, zero, suc, _+_, _*_, _/_, _^_, _≤_, _<_}
 use native.Mathlib.Omega.{arith}
-use borrow.Author.Tests.{eqb-true, eq-eqb, leb-true, le-leb}
-use lib.Dec.{eqb, leb, lit<, eqb→eq}
+use borrow.Author.Tests.{eq-eqb}
+use lib.Dec.{eqb, lit<, eqb→eq}
 use lib.ListN.{length, getD, take, drop, replicate, length-drop, take-append-drop}
 use lib.Seq.{take-all, take-at, drop-at, take-append-add, length-take-le, take-add}
 use Rattle.anc.specs.Word.{bit}
-use Rattle.basics.specs.Each.{all, same}
-use Rattle.basics.proofs.Laws.Each.{same-equal}
+use Rattle.basics.specs.Each.{same}
 use Rattle.basics.proofs.Laws.Parts.{skip, last-one}
-use Rattle.basics.proofs.Laws.Test.{both-true, below-at as passes-at}
-use Rattle.refusal.proofs.Laws.Chain.{require-passed}
-use Rattle.rs.specs.Codeword.{Bytes}
-use Rattle.packet.specs.Protected.{narrow}
-use Rattle.packet.specs.Layout.{flag}
-use Rattle.packet.specs.declared.Written.the-variants.{Done as DoneWriting}
+use Rattle.basics.proofs.Laws.Test.{below-at as passes-at}
+use Rattle.anc.specs.Words.{hasFlag, narrow, flag}
+use Rattle.writing.specs.declared.Written.the-variants.{Done as DoneWriting}
 use Rattle.b40.specs.declared.Unpacked.the-variants.{Done}
 use Rattle.b40.specs.Field.{bits, bitsEach, numberOf, numbers, fieldBits, fieldOf, bitsOf, part, ycOf, lineOf, offsetOf, wordsOf, isPlace}
 use Rattle.b40.specs.Packing.{packRefusal, packedOf, packLeaves}
 use Rattle.b40.specs.Unpacking.{unpackRefusal, headOf, unpackedOf, unpackLeaves}
 use Rattle.b40.proofs.Laws.Bits.{bits-length, each-length}
-use Rattle.b40.proofs.Laws.Back.{Below, below-append, below-at, below-replicate, below-drop, below-take, bits-below, each-below, number-bits, run-back, run-lt, each-append, each-one, each-numbers, numbers-each, numbers-back, numbers-below}
-use Rattle.b40.proofs.Laws.Places.{front, past-line, past-offset, packed-parts, packed-bits, packed-length, field-bits, held-length}
-
--- ---- words of ten bits, lines and offsets
-
-narrow-below : (words : List ℕ) → narrow words ≡ true → Below 1024 words
-unfolding narrow all
-narrow-below [] e = tt
-narrow-below (w ∷ words) e =
-    let both = both-true _ _ e in
-    let h : w ≤ 1023 = leb-true w 1023 (both .0) in
-    (omega arith, narrow-below words (both .1))
-
-below-narrow : (words : List ℕ) → Below 1024 words → narrow words ≡ true
-unfolding narrow all
-below-narrow [] p = refl
-below-narrow (w ∷ words) p = let h = p .0 in ap₂ _&&_ (le-leb w 1023 (omega arith)) (below-narrow words (p .1))
-
-bytes-below : (field : List ℕ) → Bytes field → Below 256 field
-bytes-below [] b = tt
-bytes-below (x ∷ field) b = (b .0, bytes-below field (b .1))
-
--- a line has 11 bits, an offset 12
-place-lt : (line offset : ℕ) → isPlace line offset ≡ true → (line < 2048) × (offset < 4096)
-unfolding isPlace
-place-lt line offset e =
-    let outer = both-true (leb 1 line && leb line 1125) (leb offset 2199) e in
-    let inner = both-true (leb 1 line) (leb line 1125) (outer .0) in
-    let a : line ≤ 1125 = leb-true line 1125 (inner .1) in
-    let b : offset ≤ 2199 = leb-true offset 2199 (outer .1) in
-    (omega arith, omega arith)
+use Rattle.b40.proofs.Laws.Back.{bits-below, each-below, number-bits, run-back, run-lt, each-append, each-one, each-numbers, numbers-each, numbers-back, numbers-below}
+use Rattle.basics.proofs.Laws.Below.{append-below, entry-below, replicate-below, drop-below, take-below}
+use Rattle.basics.specs.Below.{Below, Bytes}
+use Rattle.b40.proofs.Laws.Packing.{accepts}
+use Rattle.b40.proofs.Laws.Unpacking.{holds}
+use Rattle.b40.proofs.Laws.Places.{place-lt, yc-lt, front, past-line, past-offset, packed-parts, packed-bits, packed-length, field-bits, held-length}
+use Rattle.anc.proofs.Laws.Words.{narrow-below, below-narrow}
 
 -- ---- what is packed is unpacked
 
@@ -63,12 +35,8 @@ bit-back : (yc : Bool) → eqb (cond yc 1 0 * 1 + 0) 1 ≡ yc
 bit-back true = refl
 bit-back false = refl
 
-yc-below : (yc : Bool) → cond yc 1 0 < 2
-yc-below true = lit< tt
-yc-below false = lit< tt
-
 front-below : (yc : Bool) → Below 2 (front yc)
-front-below yc = below-append 2 (replicate 6 0) (cond yc 1 0 ∷ []) (below-replicate 2 6 0 (lit< tt)) (yc-below yc, tt)
+front-below yc = append-below 2 (replicate 6 0) (cond yc 1 0 ∷ []) (replicate-below 2 6 0 (lit< tt)) (yc-lt yc, tt)
 
 module _ (yc : Bool) (line offset : ℕ) (words : List ℕ) (n : length words ≡ 262) where
   abbrev F : List ℕ
@@ -79,10 +47,10 @@ module _ (yc : Bool) (line offset : ℕ) (words : List ℕ) (n : length words �
 
   packed-below : Below 2 F
   packed-below =
-      let c = below-append 2 (bitsEach 10 (drop 3 words)) (replicate 4 1) (each-below 10 (drop 3 words)) (below-replicate 2 4 1 (lit< tt)) in
-      let d = below-append 2 (bits 12 offset) (past-offset words) (bits-below 12 offset) c in
-      let e = below-append 2 (bits 11 line) (past-line offset words) (bits-below 11 line) d in
-      subst (Below 2) (sym (packed-parts yc line offset words)) (below-append 2 (front yc) (bits 11 line ++ past-line offset words) (front-below yc) e)
+      let c = append-below 2 (bitsEach 10 (drop 3 words)) (replicate 4 1) (each-below 10 (drop 3 words)) (replicate-below 2 4 1 (lit< tt)) in
+      let d = append-below 2 (bits 12 offset) (past-offset words) (bits-below 12 offset) c in
+      let e = append-below 2 (bits 11 line) (past-line offset words) (bits-below 11 line) d in
+      subst (Below 2) (sym (packed-parts yc line offset words)) (append-below 2 (front yc) (bits 11 line ++ past-line offset words) (front-below yc) e)
 
   -- the bits of the bytes are the bits that were packed
   bits-back : bitsOf field′ ≡ F
@@ -124,7 +92,7 @@ module _ (yc : Bool) (line offset : ℕ) (words : List ℕ) (n : length words �
       ap (drop 30) parts-back ∙ skip (bits 11 line) (past-line offset words) 11 12 (bits-length 11 line)
       ∙ drop-at (bits 12 offset) (past-offset words) 12 (bits-length 12 offset) in
       let same-words : numbers 259 10 (past-offset words) ≡ d =
-      numbers-back 259 10 d (replicate 4 1) m (below-drop 1024 3 words (narrow-below words w)) in
+      numbers-back 259 10 d (replicate 4 1) m (drop-below 1024 3 words (narrow-below words w)) in
       ap (λ (l : List ℕ). flag ++ numbers 259 10 l) rest ∙ ap (λ (l : List ℕ). flag ++ l) same-words
       ∙ ap (λ (l : List ℕ). l ++ d) (sym f) ∙ take-append-drop 3 words
 
@@ -141,26 +109,6 @@ module _ (yc : Bool) (line offset : ℕ) (words : List ℕ) (n : length words �
         let h = place-lt line offset p in
         let q : isPlace (lineOf field′) (offsetOf field′) ≡ true = ap₂ isPlace (line-back (h .0)) (offset-back (h .1)) ∙ p in
         simp (eq-eqb (length field′) 328 (packed-length yc line offset words), eq-eqb (part field′ 0 6) 0 zeros-back, q, eq-eqb room 262 m)
-
--- what packing accepts
-record Accepts (line offset : ℕ) (words : List ℕ) : Type 0 where
-  long : length words ≡ 262
-  tens : narrow words ≡ true
-  flagged : take 3 words ≡ flag
-  place : isPlace line offset ≡ true
-
-accepts : (line offset : ℕ) (words : List ℕ) (room : ℕ) → packRefusal line offset words room ≡ none → Accepts line offset words
-unfolding packRefusal
-accepts line offset words room ok =
-    let a = require-passed _ _ _ ok in
-    let b = require-passed _ _ _ (a .1) in
-    let d = require-passed _ _ _ (b .1) in
-    record {
-      long = eqb-true (length words) 262 (a .0);
-      tens = b .0;
-      flagged = same-equal (take 3 words) flag (d .0);
-      place = require-passed _ _ _ (d .1) .0;
-    }
 
 -- where packing is not refused, unpacking what it leaves gives back Y/C, line, offset and the 262 words
 pub unpack-pack : (yc : Bool) (line offset : ℕ) (words old room : List ℕ) → packRefusal line offset words (length old) ≡ none → length room ≡ 262
@@ -190,22 +138,9 @@ last-byte z h =
 abbrev pub padded : List ℕ → List ℕ
 padded field = take 327 field ++ (getD field 327 0 / 16 * 16 + 15) ∷ []
 
-held-flag : (field : List ℕ) → same (take 3 (wordsOf field)) flag ≡ true
-unfolding wordsOf flag same
+held-flag : (field : List ℕ) → hasFlag (wordsOf field) ≡ true
+unfolding wordsOf flag hasFlag same
 held-flag field = refl
-
--- what unpacking accepts
-record Holds (field : List ℕ) : Type 0 where
-  long′ : length field ≡ 328
-  zeros : part field 0 6 ≡ 0
-  place : isPlace (lineOf field) (offsetOf field) ≡ true
-
-holds : (field : List ℕ) (room : ℕ) → unpackRefusal field room ≡ none → Holds field
-unfolding unpackRefusal
-holds field room ok =
-    let a = require-passed _ _ _ ok in
-    let d = both-true (eqb (part field 0 6) 0) (isPlace (lineOf field) (offsetOf field)) (require-passed _ _ _ (a .1) .0) in
-    record { long′ = eqb-true (length field) 328 (a .0); zeros = eqb-true (part field 0 6) 0 (d .0); place = d .1 }
 
 module _ (field : List ℕ) (b : Bytes field) (n : length field ≡ 328) (z : part field 0 6 ≡ 0) where
   abbrev B : List ℕ
@@ -221,18 +156,18 @@ module _ (field : List ℕ) (b : Bytes field) (n : length field ≡ 328) (z : pa
   -- a run of bits is that of the number which it spells
   run : (s k : ℕ) → s + k ≤ 2624 → bits k (part field s k) ≡ take k (drop s B)
   unfolding part
-  run s k h = run-back k (drop s B) (below-drop 2 s B zeros-or-ones) (omega (arith, long, length-drop s B))
+  run s k h = run-back k (drop s B) (drop-below 2 s B zeros-or-ones) (omega (arith, long, length-drop s B))
 
   run-small : (s k : ℕ) → s + k ≤ 2624 → part field s k < 2 ^ k
   unfolding part
-  run-small s k h = run-lt k (drop s B) (below-drop 2 s B zeros-or-ones) (omega (arith, long, length-drop s B))
+  run-small s k h = run-lt k (drop s B) (drop-below 2 s B zeros-or-ones) (omega (arith, long, length-drop s B))
 
   -- the words that it holds are ten bits each, behind a flag
   held-narrow : narrow (wordsOf field) ≡ true
   unfolding wordsOf flag
   held-narrow =
       below-narrow (wordsOf field)
-      (lit< tt, (lit< tt, (lit< tt, numbers-below 259 10 (drop 30 B) (below-drop 2 30 B zeros-or-ones) (omega (arith, long, length-drop 30 B)))))
+      (lit< tt, (lit< tt, (lit< tt, numbers-below 259 10 (drop 30 B) (drop-below 2 30 B zeros-or-ones) (omega (arith, long, length-drop 30 B)))))
 
   front-same : front (ycOf field) ≡ take 7 B
   unfolding ycOf bits bit
@@ -245,7 +180,7 @@ module _ (field : List ℕ) (b : Bytes field) (n : length field ≡ 328) (z : pa
   unfolding fieldBits lineOf offsetOf wordsOf flag
   packed-again =
       let r30 : bitsEach 10 (numbers 259 10 (drop 30 B)) ≡ take 2590 (drop 30 B) =
-      each-numbers 259 10 (drop 30 B) (below-drop 2 30 B zeros-or-ones) (omega (arith, long, length-drop 30 B)) in
+      each-numbers 259 10 (drop 30 B) (drop-below 2 30 B zeros-or-ones) (omega (arith, long, length-drop 30 B)) in
       let e18 : front (ycOf field) ++ bits 11 (part field 7 11) ≡ take 18 B = ap₂ (λ (x w : List ℕ). x ++ w) front-same (run 7 11 (omega arith)) ∙ sym (take-add 7 11 B) in
       let e30 = ap₂ (λ (x w : List ℕ). x ++ w) e18 (run 18 12 (omega arith)) ∙ sym (take-add 18 12 B) in
       ap (λ (l : List ℕ). l ++ replicate 4 1) (ap₂ (λ (x w : List ℕ). x ++ w) e30 r30 ∙ sym (take-add 30 2590 B))
@@ -269,8 +204,8 @@ module _ (field : List ℕ) (b : Bytes field) (n : length field ≡ 328) (z : pa
       let m : length x ≡ 327 = length-take-le 327 field (omega arith) in
       let k : 328 ≡ length x + 1 = omega arith in
       ap₂ (λ (j : ℕ) (l : List ℕ). numbers j 8 l) k (packed-again ∙ ap (λ (l : List ℕ). l ++ replicate 4 1) first-bits ∙ append-assoc (bitsEach 8 x) y (replicate 4 1))
-      ∙ numbers-each 1 8 x (y ++ replicate 4 1) (below-take 256 327 field (bytes-below field b))
-      ∙ ap (λ (v : ℕ). x ++ v ∷ []) (last-byte (getD field 327 0) (below-at 256 field 327 (bytes-below field b) (omega arith)))
+      ∙ numbers-each 1 8 x (y ++ replicate 4 1) (take-below 256 327 field b)
+      ∙ ap (λ (v : ℕ). x ++ v ∷ []) (last-byte (getD field 327 0) (entry-below 256 field (lit< tt) b 327))
 
   again-accepted : isPlace (lineOf field) (offsetOf field) ≡ true → (room : ℕ) → room ≡ 328
       → packRefusal (lineOf field) (offsetOf field) (wordsOf field) room ≡ none
@@ -284,5 +219,5 @@ pub pack-unpack : (field room old : List ℕ) → Bytes field → unpackRefusal 
 unfolding packedOf packLeaves unpackLeaves headOf
 pack-unpack field room old b ok m =
     let h = holds field (length room) ok in
-    let again = again-accepted field b (h .long′) (h .zeros) (h .place) (length old) m in
-    rw (ok, again) (refl, padded-again field b (h .long′) (h .zeros))
+    let again = again-accepted field b (h .long) (h .zeros) (h .place) (length old) m in
+    rw (ok, again) (refl, padded-again field b (h .long) (h .zeros))

@@ -1,22 +1,30 @@
--- What unpacking answers and leaves in each case of its checks, and what its answers say.
+-- What unpacking answers and leaves by its checks, and what its answers say.
 -- Assumes nothing.
-use mathlib.Core.Path.{_≡_, refl, sym, ap, ap₂, _∙_}
-use mathlib.Core.Bool.{Bool, true, false}
+use mathlib.Core.Path.{_≡_, refl, sym, ap, _∙_}
+use mathlib.Core.Bool.{Bool, true, _&&_}
 use mathlib.Core.List.{List}
 use mathlib.Core.Option.{Option, none, some}
-use Prim.Native.Nat.{ℕ}
-use borrow.Author.Tests.{eq-eqb, ne-eqb}
+use Prim.Native.Nat.{ℕ, _+_, _/_, _%_, _^_}
+use native.Mathlib.Omega.{arith}
+use borrow.Author.Tests.{eq-eqb, ne-eqb, eqb-true}
 use lib.Dec.{eqb}
 use lib.ListN.{length}
-use Rattle.refusal.specs.Chain.{leftBy}
+use lib.Pow.{shr-mod}
+use Rattle.refusal.specs.Chain.{require, passed, next, leftBy}
+use Rattle.refusal.specs.Checked.{checkedOf, refusalIn as refusalInCheck}
 use Rattle.refusal.specs.Number.{refusalPlain}
 use Rattle.refusal.specs.declared.Reason.the-variants.{FieldLength, FieldHead, Room}
+use Rattle.refusal.specs.declared.Checked.{Checked}
+use Rattle.refusal.specs.declared.Checked.the-variants.{Passed, Refused as RefusedCheck}
 use Rattle.refusal.specs.declared.Refusal.{Refusal}
+use Rattle.refusal.proofs.Laws.Chain.{told, require-passed, chained-none, chained-more, chained-all}
+use Rattle.basics.proofs.Laws.Test.{both-true}
 use Rattle.b40.specs.declared.Head.{Head}
 use Rattle.b40.specs.declared.Unpacked.{Unpacked}
 use Rattle.b40.specs.declared.Unpacked.the-variants.{Done, Refused}
 use Rattle.b40.specs.Field.{part, ycOf, lineOf, offsetOf, wordsOf, isPlace}
 use Rattle.b40.specs.Unpacking.{refusalIn, headIn, unpackRefusal, headOf, unpackedBy, unpackedOf, unpackLeaves}
+use Rattle.b40.proofs.Laws.Places.{first-part, first-lt}
 
 -- what is said, and what is left in the lent buffer
 pub record Answer (field old : List ℕ) (said : Unpacked) (left : List ℕ) : Type 0 where
@@ -35,39 +43,70 @@ module _ (field old : List ℕ) where
   unfolding unpackRefusal
   wrong-length n = answer (some (refusalPlain FieldLength)) (simp (ne-eqb (length field) 328 n))
 
-  module _ (z line offset : ℕ) (n : length field ≡ 328) (ez : z ≡ part field 0 6) (el : line ≡ part field 7 11) (eo : offset ≡ part field 18 12) where
-    pub not-zero : (z ≡ 0 → ⊥) → Answer field old (Refused (refusalPlain FieldHead)) old
-    unfolding unpackRefusal
-    not-zero h = answer (some (refusalPlain FieldHead)) (simp (eq-eqb (length field) 328 n, ne-eqb (part field 0 6) 0 (λ e. h (ez ∙ e))))
+  -- from here on, the number that the first 32 bits spell
+  module _ (first : ℕ) (n : length field ≡ 328) (e : first ≡ part field 0 32) where
+    read : (o m s : ℕ) → o + m + s ≡ 32 → first / 2 ^ s % 2 ^ m ≡ part field o m
+    read o m s h = ap (λ (x : ℕ). x / 2 ^ s % 2 ^ m) e ∙ first-part field (omega arith) o m s h
 
-    -- the line and offset that were read
-    place-read : (t : Bool) → isPlace line offset ≡ t → isPlace (lineOf field) (offsetOf field) ≡ t
-    unfolding lineOf offsetOf
-    place-read t p = ap₂ isPlace (sym el) (sym eo) ∙ p
+    -- the first six need no remainder
+    zeros-read : first / 67108864 ≡ part field 0 6
+    zeros-read = sym (shr-mod 6 26 (first-lt field first (omega arith) e)) ∙ read 0 6 26 refl
 
-    module _ (zero′ : z ≡ 0) where
-      pub no-place : isPlace line offset ≡ false → Answer field old (Refused (refusalPlain FieldHead)) old
-      unfolding unpackRefusal
-      no-place p =
-          answer (some (refusalPlain FieldHead)) (simp (eq-eqb (length field) 328 n, eq-eqb (part field 0 6) 0 (sym ez ∙ zero′), place-read false p))
+    -- the test of the head, as it is computed
+    abbrev head-test : Bool
+    head-test = eqb (first / 67108864) 0 && isPlace (first / 16384 % 2048) (first / 4 % 4096)
 
-      module _ (p : isPlace line offset ≡ true) where
-        pub wrong-room : (length old ≡ 262 → ⊥) → Answer field old (Refused (refusalPlain Room)) old
-        unfolding unpackRefusal
-        wrong-room m =
-            answer (some (refusalPlain Room))
-            (simp (eq-eqb (length field) 328 n, eq-eqb (part field 0 6) 0 (sym ez ∙ zero′), place-read true p, ne-eqb (length old) 262 m))
+    refusal-read : (room : ℕ) → require head-test (refusalPlain FieldHead) (require (eqb room 262) (refusalPlain Room) passed) ≡ unpackRefusal field room
+    unfolding unpackRefusal lineOf offsetOf
+    refusal-read room =
+        rw (zeros-read, read 7 11 14 refl, read 18 12 2 refl, eq-eqb (length field) 328 n)
 
-        head-read : (y : ℕ) → y ≡ part field 6 1 → _≡_ {A = Head} (record { yc = eqb y 1; line = line; offset = offset }) (headOf field)
-        unfolding headOf ycOf lineOf offsetOf
-        head-read y e = λ i. record { yc = eqb (e i) 1; line = el i; offset = eo i }
+    head-read : _≡_ {A = Head}
+        (record { yc = eqb (first / 33554432 % 2) 1; line = first / 16384 % 2048; offset = first / 4 % 4096 })
+        (headOf field)
+    unfolding headOf ycOf lineOf offsetOf
+    head-read = λ i. record { yc = eqb (read 6 1 25 refl i) 1; line = read 7 11 14 refl i; offset = read 18 12 2 refl i }
 
-        pub all-right : length old ≡ 262 → (y : ℕ) → y ≡ part field 6 1
-            → Answer field old (Done (record { yc = eqb y 1; line = line; offset = offset })) (wordsOf field)
-        unfolding unpackRefusal
-        all-right m y e =
-            rw (head-read y e)
-            (answer none (simp (eq-eqb (length field) 328 n, eq-eqb (part field 0 6) 0 (sym ez ∙ zero′), place-read true p, eq-eqb (length old) 262 m)))
+    pub checks-read : {one two : Checked} {place : Bool}
+        → one ≡ checkedOf (next (refusalInCheck Passed) (require (eqb (first / 67108864) 0 && place) (refusalPlain FieldHead) passed))
+        → two ≡ checkedOf (next (refusalInCheck one) (require (eqb (length old) 262) (refusalPlain Room) passed))
+        → place ≡ isPlace (first / 16384 % 2048) (first / 4 % 4096) → two ≡ checkedOf (unpackRefusal field (length old))
+    checks-read a b p =
+        let c1 = chained-more (refusalPlain FieldHead) chained-none a (ap (_&&_ (eqb (first / 67108864) 0)) p) in
+        let c2 = chained-more {test = eqb (length old) 262} (refusalPlain Room) c1 b refl in
+        chained-all c2 ∙ ap checkedOf (refusal-read (length old))
+
+    -- by what the checks said
+    module _ (said : Checked) (c : said ≡ checkedOf (unpackRefusal field (length old))) where
+      pub not-unpacked : (why : Refusal) → said ≡ RefusedCheck why → Answer field old (Refused why) old
+      not-unpacked why s = answer (some why) (told _ said (RefusedCheck why) c s)
+
+      pub unpacked : said ≡ Passed
+          → Answer field old (Done (record { yc = eqb (first / 33554432 % 2) 1; line = first / 16384 % 2048; offset = first / 4 % 4096 })) (wordsOf field)
+      unpacked s = rw head-read (answer none (told _ said Passed c s))
+
+      pub all-passed : said ≡ Passed → unpackRefusal field (length old) ≡ none
+      all-passed s = told _ said Passed c s
+
+-- what unpacking accepts
+pub record Holds (field : List ℕ) (room : ℕ) : Type 0 where
+  pub long : length field ≡ 328
+  pub zeros : part field 0 6 ≡ 0
+  pub place : isPlace (lineOf field) (offsetOf field) ≡ true
+  pub roomy : room ≡ 262
+
+pub holds : (field : List ℕ) (room : ℕ) → unpackRefusal field room ≡ none → Holds field room
+unfolding unpackRefusal
+holds field room ok =
+    let a = require-passed _ _ _ ok in
+    let b = require-passed _ _ _ (a .1) in
+    let d = both-true (eqb (part field 0 6) 0) (isPlace (lineOf field) (offsetOf field)) (b .0) in
+    record {
+      long = eqb-true (length field) 328 (a .0);
+      zeros = eqb-true (part field 0 6) 0 (d .0);
+      place = d .1;
+      roomy = eqb-true room 262 (require-passed _ _ _ (b .1) .0);
+    }
 
 -- ---- what the answers say
 

@@ -6,7 +6,8 @@ use mathlib.Core.List.{List, [], _∷_}
 use Prim.Native.Nat.{ℕ}
 use lib.ListN.{take}
 use Rattle.anc.specs.Word.{wordOf, withB9, bit, ones, parityOf}
-use Rattle.packet.specs.Layout.{packetWords, summedWords, kind, flag, headerWord}
+use Rattle.writing.specs.Layout.{packetWords, summedWords, kind, headerWord}
+use Rattle.anc.specs.Words.{flag}
 use Rattle.b40.specs.Field.{bits, bitsEach, numberOf, numbers, fieldBits, fieldOf}
 
 -- correction off and CI 0, Y/C 0, line 9, offset 0: these bytes do not yet hold any of the record, so they are the same for each, a fresh

@@ -1,11 +1,12 @@
 -- How the tests of lists go on from an entry to the rest, and what they say.
 -- Assumes nothing.
 use mathlib.Core.Path.{_≡_, refl, sym, ap, ap₂, _∙_}
-use mathlib.Core.Bool.{Bool, true, false, _&&_, false≢true}
+use mathlib.Core.Bool.{Bool, true, false, _&&_, and-true, and-assoc, false≢true}
 use mathlib.Core.List.{List, [], _∷_, _++_}
 use Prim.Native.Nat.{ℕ, _+_, _≤_, _<_}
 use native.Mathlib.Numerals.{add-one}
-use borrow.Author.Tests.{eqb-true, eq-eqb, ne-eqb}
+use native.Mathlib.Omega.{arith}
+use borrow.Author.Tests.{eqb-true, eq-eqb}
 use lib.Dec.{eqb}
 use lib.ListN.{length, getD, drop, drop-of-length-le}
 use lib.Seq.{drop-cons}
@@ -15,12 +16,12 @@ use Rattle.basics.proofs.Laws.Test.{both-true}
 -- ---- a test of each entry
 
 -- the entry at i, and then the rest
-pub all-step : (f : ℕ → Bool) (l : List ℕ) (i : ℕ) → i < length l → all f (drop i l) ≡ (f (getD l i 0) && all f (drop (i + 1) l))
+all-step : (f : ℕ → Bool) (l : List ℕ) (i : ℕ) → i < length l → all f (drop i l) ≡ (f (getD l i 0) && all f (drop (i + 1) l))
 unfolding all
 all-step f l i h = rw (add-one, drop-cons l i 0 h)
 
 -- no entry is left
-pub all-end : (f : ℕ → Bool) (l : List ℕ) (i : ℕ) → length l ≤ i → all f (drop i l) ≡ true
+all-end : (f : ℕ → Bool) (l : List ℕ) (i : ℕ) → length l ≤ i → all f (drop i l) ≡ true
 unfolding all
 all-end f l i h = rw (drop-of-length-le l h)
 
@@ -29,6 +30,29 @@ pub all-append : (f : ℕ → Bool) (l m : List ℕ) → all f l ≡ true → al
 unfolding all
 all-append f [] m p q = q
 all-append f (b ∷ l) m p q = let both = both-true (f b) (all f l) p in rw (both .0) (all-append f l m (both .1) q)
+
+-- ---- a loop that says whether each entry passes
+
+-- i entries have been passed, and `ok` says whether each of them did
+pub record Passing (f : ℕ → Bool) (l : List ℕ) (i : ℕ) (ok : Bool) : Type 0 where
+  pub within : i ≤ length l
+  pub so-far : all f l ≡ (ok && all f (drop i l))
+
+module _ (f : ℕ → Bool) (l : List ℕ) where
+  -- none yet
+  pub passing-none : Passing f l 0 true
+  passing-none = record { within = omega arith; so-far = refl }
+
+  -- one more
+  pub passing-more : (i : ℕ) (ok more : Bool) → Passing f l i ok → i < length l → more ≡ (ok && f (getD l i 0)) → Passing f l (i + 1) more
+  passing-more i ok more p h e = record {
+    within = omega arith;
+    so-far = p .so-far ∙ ap (_&&_ ok) (all-step f l i h) ∙ sym (and-assoc ok _ _) ∙ ap (λ (b : Bool). b && all f (drop (i + 1) l)) (sym e);
+  }
+
+  -- all of them
+  pub passing-all : (i : ℕ) (ok : Bool) → Passing f l i ok → length l ≤ i → ok ≡ all f l
+  passing-all i ok p h = sym (p .so-far ∙ ap (_&&_ ok) (all-end f l i h) ∙ and-true ok)
 
 -- ---- equal lists
 
@@ -53,18 +77,37 @@ same-other a b n = go (same a b) (same-equal a b)
     go true f = absurd (n (f refl))
     go false f = refl
 
-module _ (a b : List ℕ) (i : ℕ) where
-  same-step : i < length a → i < length b → same (drop i a) (drop i b) ≡ (eqb (getD a i 0) (getD b i 0) && same (drop (i + 1) a) (drop (i + 1) b))
+-- ---- a loop that says whether two lists are equal
+
+-- i entries have been passed, and `ok` says whether each of them is equal to the one in the other list
+pub record Matching (a b : List ℕ) (i : ℕ) (ok : Bool) : Type 0 where
+  pub within : i ≤ length a
+  pub as-long : length a ≡ length b
+  pub so-far : same a b ≡ (ok && same (drop i a) (drop i b))
+
+module _ (a b : List ℕ) where
+  -- the entries at i, and then the rest
+  same-step : (i : ℕ) → i < length a → i < length b → same (drop i a) (drop i b) ≡ (eqb (getD a i 0) (getD b i 0) && same (drop (i + 1) a) (drop (i + 1) b))
   unfolding same
-  same-step h k =
-      ap₂ same (drop-cons a i 0 h) (drop-cons b i 0 k) ∙ ap (λ (n : ℕ). eqb (getD a i 0) (getD b i 0) && same (drop n a) (drop n b)) (sym (add-one i))
+  same-step i h k = rw (add-one, drop-cons a i 0 h, drop-cons b i 0 k)
 
-  pub same-stops : i < length a → i < length b → (getD a i 0 ≡ getD b i 0 → ⊥) → same (drop i a) (drop i b) ≡ false
-  same-stops h k n = same-step h k ∙ rw (ne-eqb _ _ n)
-
-  pub same-more : i < length a → i < length b → getD a i 0 ≡ getD b i 0 → same (drop i a) (drop i b) ≡ same (drop (i + 1) a) (drop (i + 1) b)
-  same-more h k e = same-step h k ∙ rw (eq-eqb _ _ e)
-
-  pub same-ends : length a ≤ i → length b ≤ i → same (drop i a) (drop i b) ≡ true
+  -- no entry is left
+  same-end : (i : ℕ) → length a ≤ i → length b ≤ i → same (drop i a) (drop i b) ≡ true
   unfolding same
-  same-ends h k = rw (drop-of-length-le a h, drop-of-length-le b k)
+  same-end i h k = rw (drop-of-length-le a h, drop-of-length-le b k)
+
+  -- none yet
+  pub matching-none : length a ≡ length b → Matching a b 0 true
+  matching-none e = record { within = omega arith; as-long = e; so-far = refl }
+
+  -- one more
+  pub matching-more : (i : ℕ) (ok more : Bool) → Matching a b i ok → i < length a → more ≡ (ok && eqb (getD a i 0) (getD b i 0)) → Matching a b (i + 1) more
+  matching-more i ok more p h e = record {
+    within = omega arith;
+    as-long = p .as-long;
+    so-far = p .so-far ∙ ap (_&&_ ok) (same-step i h (omega arith)) ∙ sym (and-assoc ok _ _) ∙ ap (λ (t : Bool). t && same (drop (i + 1) a) (drop (i + 1) b)) (sym e);
+  }
+
+  -- all of them
+  pub matching-all : (i : ℕ) (ok : Bool) → Matching a b i ok → length a ≤ i → ok ≡ same a b
+  matching-all i ok p h = sym (p .so-far ∙ ap (_&&_ ok) (same-end i h (omega arith)) ∙ and-true ok)

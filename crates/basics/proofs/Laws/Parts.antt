@@ -6,10 +6,14 @@ use Prim.Native.Nat.{ℕ, zero, suc, _+_, _≤_, _<_}
 use native.Mathlib.Nat.{not-suc-le-zero, le-of-suc-le-suc}
 use native.Mathlib.Numerals.{add-one}
 use native.Mathlib.Omega.{arith}
-use lib.ListN.{length, getD, set, take, drop, drop-of-length-le}
-use lib.Seq.{drop-cons, take-all, take-at, drop-at, take-add, take-take, drop-drop, drop-append-add, getD-take, getD-drop}
+use lib.ListN.{length, getD, set, take, drop, drop-of-length-le, length-set, length-drop}
+use lib.Seq.{length-take-le, drop-cons, take-all, take-at, drop-at, take-add, take-take, drop-drop, drop-append-add, getD-take, getD-drop}
 
 -- ---- runs of a list
+
+-- a run that lies within a list has its length
+pub run-length : (l : List ℕ) (s n : ℕ) → s + n ≤ length l → length (take n (drop s l)) ≡ n
+run-length l s n h = length-take-le n (drop s l) (simp length-drop (omega arith))
 
 -- a run and the one behind it
 pub join : (l : List ℕ) (s n m : ℕ) (r : List ℕ) → r ≡ take m (drop (s + n) l) → take n (drop s l) ++ r ≡ take (n + m) (drop s l)
@@ -81,6 +85,29 @@ filled-more new old now′ i v e h k g =
 -- all places
 pub filled-all : (new old : List ℕ) (i : ℕ) → length new ≤ i → length old ≤ i → filled new old i ≡ new
 filled-all new old i h k = ap₂ (λ (l m : List ℕ). l ++ m) (take-all i new h) (drop-of-length-le old k) ∙ append-nil new
+
+-- a loop that fills a list place by place: i places hold new entries
+pub record Filling (new old out : List ℕ) (i : ℕ) : Type 0 where
+  pub within : i ≤ length old
+  pub long : length out ≡ length old
+  pub so-far : out ≡ filled new old i
+
+module _ (new old : List ℕ) (e : length new ≡ length old) where
+  -- none yet
+  pub filling-none : Filling new old old 0
+  filling-none = record { within = omega arith; long = refl; so-far = refl }
+
+  -- one more
+  pub filling-more : (out : List ℕ) (i v : ℕ) → Filling new old out i → i < length old → getD new i 0 ≡ v → Filling new old (set out i v) (i + 1)
+  filling-more out i v f h g = record {
+    within = omega arith;
+    long = length-set out i v ∙ f .long;
+    so-far = filled-more new old out i v (f .so-far) (omega arith) h g;
+  }
+
+  -- all of them
+  pub filling-all : (out : List ℕ) (i : ℕ) → Filling new old out i → length old ≤ i → out ≡ new
+  filling-all out i f h = f .so-far ∙ filled-all new old i (omega arith) h
 
 -- what stands behind the run p is written over by q
 pub over : (p r q : List ℕ) (n k : ℕ) → length p ≡ n → take n (p ++ r) ++ (q ++ drop k (drop n (p ++ r))) ≡ p ++ (q ++ drop k r)

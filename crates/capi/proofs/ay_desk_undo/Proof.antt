@@ -1,7 +1,7 @@
 -- `capi::ay_desk_undo` meets its contract.
 -- Assumes nothing.
 use mathlib.Core.Path.{ap, _∙_}
-use Rattle.capi.specs.Answers.{turnFrom}
+use Rattle.answers.specs.Answers.{turnFrom}
 use borrow.Author.Needs.{needs}
 use Rattle.capi.proofs.ay_desk_undo.Statement.{statement}
 use Rattle.capi.proofs.ay_desk_undo.Tie as tie

@@ -1,7 +1,7 @@
 -- `capi::ay_follower_follow` meets its contract.
 -- Assumes nothing.
 use mathlib.Core.Path.{ap, _∙_}
-use Rattle.capi.specs.Answers.{followedFrom}
+use Rattle.answers.specs.Answers.{followedFrom}
 use borrow.Author.Needs.{needs}
 use Rattle.capi.proofs.ay_follower_follow.Statement.{statement}
 use Rattle.capi.proofs.ay_follower_follow.Tie as tie

@@ -1,9 +1,9 @@
 -- `capi::ay_pack` meets its contract.
 -- Assumes nothing.
 use mathlib.Core.Path.{ap, _∙_}
-use Rattle.packet.specs.Written.{refusalIn}
+use Rattle.writing.specs.Written.{refusalIn}
 use Rattle.b40.proofs.Laws.Packing.{refusal-said}
-use Rattle.capi.specs.Answers.{answerBy}
+use Rattle.answers.specs.Answers.{answerBy}
 use borrow.Author.Needs.{needs}
 use Rattle.capi.proofs.ay_pack.Statement.{statement}
 use Rattle.capi.proofs.ay_pack.Tie as tie

@@ -1,7 +1,7 @@
 -- `capi::ay_read_packet_into` meets its contract.
 -- Assumes nothing.
 use mathlib.Core.Path.{ap, _∙_}
-use Rattle.capi.specs.Answers.{packetFrom}
+use Rattle.answers.specs.Answers.{packetFrom}
 use borrow.Author.Needs.{needs}
 use Rattle.capi.proofs.ay_read_packet_into.Statement.{statement}
 use Rattle.capi.proofs.ay_read_packet_into.Tie as tie

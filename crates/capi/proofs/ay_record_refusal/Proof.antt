@@ -1,9 +1,9 @@
 -- `capi::ay_record_refusal` meets its contract.
 -- Assumes nothing.
 use mathlib.Core.Path.{ap, _∙_}
-use Rattle.record.specs.Checked.{refusalIn}
-use Rattle.record.proofs.Laws.Checks.{refusal-in}
-use Rattle.capi.specs.Answers.{answerBy}
+use Rattle.refusal.specs.Checked.{refusalIn}
+use Rattle.refusal.proofs.Laws.Chain.{refusal-in}
+use Rattle.answers.specs.Answers.{answerBy}
 use borrow.Author.Needs.{needs}
 use Rattle.capi.proofs.ay_record_refusal.Statement.{statement}
 use Rattle.capi.proofs.ay_record_refusal.Tie as tie

@@ -1,7 +1,7 @@
 -- `capi::ay_repair` meets its contract.
 -- Assumes nothing.
 use mathlib.Core.Path.{ap, _∙_}
-use Rattle.capi.specs.Answers.{repairedFrom}
+use Rattle.answers.specs.Answers.{repairedFrom}
 use borrow.Author.Needs.{needs}
 use Rattle.capi.proofs.ay_repair.Statement.{statement}
 use Rattle.capi.proofs.ay_repair.Tie as tie

@@ -1,7 +1,7 @@
 -- `capi::ay_unpack` meets its contract.
 -- Assumes nothing.
 use mathlib.Core.Path.{ap, _∙_}
-use Rattle.capi.specs.Answers.{fieldFrom}
+use Rattle.answers.specs.Answers.{fieldFrom}
 use borrow.Author.Needs.{needs}
 use Rattle.capi.proofs.ay_unpack.Statement.{statement}
 use Rattle.capi.proofs.ay_unpack.Tie as tie

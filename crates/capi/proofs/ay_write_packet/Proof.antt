@@ -1,9 +1,9 @@
 -- `capi::ay_write_packet` meets its contract.
 -- Assumes nothing.
 use mathlib.Core.Path.{ap, _∙_}
-use Rattle.packet.specs.Written.{refusalIn}
-use Rattle.packet.proofs.Laws.Writing.{refusal-said}
-use Rattle.capi.specs.Answers.{answerBy}
+use Rattle.writing.specs.Written.{refusalIn}
+use Rattle.writing.proofs.Laws.Writing.{refusal-said}
+use Rattle.answers.specs.Answers.{answerBy}
 use borrow.Author.Needs.{needs}
 use Rattle.capi.proofs.ay_write_packet.Statement.{statement}
 use Rattle.capi.proofs.ay_write_packet.Tie as tie

@@ -1,35 +1,35 @@
 -- What each call of a desk answers, by what the calls that it makes answered.
 -- Assumes nothing.
 use mathlib.Core.Path.{_≡_, refl, sym, ap, _∙_}
-use mathlib.Core.Bool.{Bool, true, false, cond}
+use mathlib.Core.Bool.{Bool}
 use mathlib.Core.List.{List}
-use mathlib.Core.Logic.{⊎-elim}
 use mathlib.Core.Option.{Option, none, some}
 use Prim.Native.Nat.{ℕ, _+_, _-_, _%_, _<_}
 use native.Mathlib.Nat.{mod-lt}
 use native.Mathlib.Omega.{arith}
-use lib.Dec.{ltb}
 use lib.ListN.{length, getD}
 use borrow.Author.Tests.{lt-ltb, ne-eqb, le-leb}
-use Rattle.basics.proofs.Laws.Test.{lt-or-le}
 use Rattle.refusal.specs.Chain.{next}
 use Rattle.refusal.specs.Number.{refusalPlain}
 use Rattle.refusal.specs.declared.Reason.the-variants.{NothingToUndo, BrokenDesk, Room}
 use Rattle.refusal.specs.declared.Refusal.{Refusal}
-use Rattle.record.specs.declared.Checked.{Checked}
-use Rattle.record.specs.declared.Checked.the-variants.{Passed, Refused}
-use Rattle.record.specs.Checked.{checkedOf}
-use Rattle.record.specs.Items.{items, broken, recordRefusal}
-use Rattle.record.specs.Item.{itemRefusal, cleanOf, putItem}
+use Rattle.refusal.specs.declared.Checked.{Checked}
+use Rattle.refusal.specs.declared.Checked.the-variants.{Passed, Refused}
+use Rattle.refusal.specs.Checked.{checkedOf}
+use Rattle.record.specs.Record.{broken, recordRefusal}
+use Rattle.items.specs.Items.{items}
+use Rattle.items.specs.Item.{itemRefusal, cleanOf, putItem}
 use Rattle.record.specs.Stored.{storeRefusal, storeLeaves}
-use Rattle.record.proofs.Laws.Checks.{told}
-use Rattle.packet.specs.Writing.{writeRefusal, writtenWords}
-use Rattle.packet.specs.Written.{writeLeaves}
-use Rattle.packet.proofs.Laws.Record.{rules-decide}
-use Rattle.desk.specs.declared.Step.{Step}
+use Rattle.refusal.proofs.Laws.Chain.{told}
+use Rattle.writing.specs.Writing.{writeRefusal, writtenWords}
+use Rattle.writing.specs.Written.{writeLeaves}
+use Rattle.record.proofs.Laws.Record.{rules-decide}
+use Rattle.steps.specs.declared.Step.{Step}
+use Rattle.steps.specs.Steps.{heldOf, pushed, countOn, blank, stepOf, backFrom}
+use Rattle.steps.proofs.Laws.History.{held-zero, held-some}
 use Rattle.desk.specs.declared.Desk.{Desk}
 use Rattle.desk.specs.declared.Turn.{Turn}
-use Rattle.desk.specs.Desk.{blank, heldOf, stepOf, pushed, countOn, backFrom, edited, undoRefusal, undone, sendRefusal, sent, sendLeaves}
+use Rattle.desk.specs.Desk.{edited, undoRefusal, undone, sendRefusal, sent, sendLeaves}
 
 -- a desk with other bytes, CI, steps and count
 abbrev desk : List ℕ → Bool → ℕ → List Step → ℕ → Desk
@@ -67,18 +67,6 @@ module _ (d : Desk) (item : ℕ) (bytes : List ℕ) (said : Checked) (n : length
         rw (ec, et, es, ek, en, store-left, told (itemRefusal item bytes) said Passed item-said s, s)
 
 -- ---- undo
-
-held-zero : (count : ℕ) → heldOf count ≡ 0 → count ≡ 0
-unfolding heldOf
-held-zero count = by (ltb 32 count)
-  where
-    by : (t : Bool) → cond t 32 count ≡ 0 → count ≡ 0
-    by true e = absurd (let z : _≡_ {A = ℕ} 32 0 = e in omega arith)
-    by false e = e
-
-held-some : (count : ℕ) → (heldOf count ≡ 0 → ⊥) → 0 < count
-unfolding heldOf
-held-some count f = ⊎-elim (λ h. h) (λ h. absurd (f (let z : count ≡ 0 = omega arith in rw z))) (lt-or-le 0 count)
 
 module _ (d : Desk) (k : ℕ) (e : k ≡ heldOf (d .count)) where
   pub undo-none : (why : Refusal) → k ≡ 0 → why ≡ refusalPlain NothingToUndo → turn d (Refused why) ≡ undone d

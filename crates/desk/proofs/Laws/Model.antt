@@ -4,30 +4,31 @@
 use mathlib.Core.Path.{_≡_, refl, sym, ap, _∙_, subst}
 use mathlib.Core.Bool.{Bool, true, false, cond}
 use mathlib.Core.List.{List, [], _∷_}
-use mathlib.Core.Logic.{⊎-elim}
 use mathlib.Core.Option.{Option, none, some}
 use Prim.Native.Nat.{ℕ, zero, suc, _+_, _-_, _%_, _≤_, _<_}
 use native.Mathlib.Omega.{arith}
-use lib.Dec.{T, eqb, ltb, ltb→lt}
-use lib.ListN.{length, take, drop, getD, List·getD-eq-default}
+use lib.Dec.{eqb}
+use lib.ListN.{length, take, drop, getD}
 use borrow.Author.Tests.{lt-ltb}
-use Rattle.basics.proofs.Laws.Test.{lt-or-le, every, every-at}
 use Rattle.refusal.specs.Chain.{require, passed, leftBy}
 use Rattle.refusal.specs.Number.{refusalPlain}
 use Rattle.refusal.specs.declared.Reason.the-variants.{Room}
 use Rattle.refusal.specs.declared.Refusal.{Refusal}
+use Rattle.rules.specs.Rules.{stationRule, stationByte, timeRule, timeByte, decimal, pictureRule, pictureClean, soundRule, soundByte}
+use Rattle.record.specs.Record.{cleaned, recordOf, broken}
+use Rattle.items.specs.Items.{items, part}
+use Rattle.items.specs.Item.{rowOf, put, putIn, itemRefusal, cleanOf, putItem}
 use Rattle.basics.specs.Each.{all}
-use Rattle.record.specs.Rules.{stationRule, stationByte, timeRule, timeByte, decimal, pictureRule, pictureClean, soundRule, soundByte}
-use Rattle.record.specs.Items.{items, part, cleaned, recordOf, broken}
-use Rattle.record.specs.Item.{rowOf, put, putIn, itemRefusal, cleanOf, putItem}
-use Rattle.record.proofs.Laws.Record.{Bytes}
+use Rattle.basics.specs.Below.{Bytes}
+use Rattle.basics.proofs.Laws.Below.{all-below}
 use Rattle.record.proofs.Laws.Stored.{Clean, clean-long, store-clean}
-use Rattle.packet.specs.Layout.{packetWords}
-use Rattle.desk.specs.declared.Step.{Step}
+use Rattle.writing.specs.Layout.{packetWords}
+use Rattle.steps.specs.declared.Step.{Step}
+use Rattle.steps.specs.Steps.{depth, heldOf, pushed, countOn, blank, stepOf, backFrom}
+use Rattle.steps.proofs.Laws.History.{newest, unwound, unwound-step, unwound-take, held-few, pushed-length, push-newest, count-more, count-few, back-from-step, pop}
 use Rattle.desk.specs.declared.Desk.{Desk}
-use Rattle.desk.specs.Desk.{depth, opening, noStep, opened, heldOf, stepOf, pushed, countOn, blank, backFrom, edited, undoRefusal, undone, sendRefusal, sent, sendLeaves}
+use Rattle.desk.specs.Desk.{opening, noStep, opened, edited, undoRefusal, undone, sendRefusal, sent, sendLeaves}
 use Rattle.desk.specs.Model.{Model, fresh, editM, undoTo, sendM}
-use Rattle.desk.proofs.Laws.History.{newest, unwound, unwound-step, unwound-take, held-few, pushed-length, push-newest, count-more, count-few, back-from-step, pop}
 
 -- ---- what is so of the present record and of each earlier one
 
@@ -273,11 +274,6 @@ one-sent m = refl
 
 -- ---- the opening record is bytes
 
-opening-test : T (every (λ k b. ltb b 256) 0 opening)
-unfolding opening items rowOf put putIn putItem
-opening-test = tt
-
 pub opening-bytes : Bytes opening
-opening-bytes i =
-    ⊎-elim (λ h. ltb→lt (getD opening i 0) 256 (every-at (λ k b. ltb b 256) opening opening-test i h)) (λ h. rw (List·getD-eq-default opening 0 {n = i} h) (omega arith))
-    (lt-or-le i (length opening))
+unfolding opening items rowOf put putIn putItem all
+opening-bytes = all-below 256 opening refl

@@ -2,18 +2,21 @@
 -- Assumes nothing.
 use mathlib.Core.Path.{_≡_, refl}
 use mathlib.Core.Bool.{true}
-use mathlib.Core.List.{List, [], _∷_, _++_}
+use mathlib.Core.List.{[], _∷_, _++_}
 use mathlib.Core.Option.{some}
 use lib.ListN.{getD, replicate}
 use Rattle.refusal.specs.Number.{refusalAt, refusalPlain}
 use Rattle.refusal.specs.declared.Reason.the-variants.{Sound, NothingToUndo}
 use Rattle.basics.specs.Each.{all}
-use Rattle.record.specs.Rules.{stationRule, stationByte, timeRule, timeByte, decimal, oneOf, pictureRule, pictureClean, soundRule, soundByte}
-use Rattle.record.specs.Items.{items, part, broken}
-use Rattle.record.specs.Item.{rowOf, refusedIn, itemRefusal, placeIn, placeOf, put, cleanIn, cleanOf, partIn, itemPart, putIn, putItem}
-use Rattle.record.specs.Checked.{refusalIn}
+use Rattle.rules.specs.Rules.{stationRule, stationByte, timeRule, timeByte, decimal, oneOf, pictureRule, pictureClean, soundRule, soundByte}
+use Rattle.record.specs.Record.{broken}
+use Rattle.items.specs.Items.{items, part}
+use Rattle.items.specs.Item.{rowOf, refusedIn, itemRefusal, placeIn, placeOf, put, cleanIn, cleanOf, partIn, itemPart, putIn, putItem}
+use Rattle.refusal.specs.Checked.{refusalIn}
+use Rattle.record.specs.Stored.{itemLent, fitsIn, itemFits, putLeaves}
+use Rattle.steps.specs.Steps.{heldOf, pushed, countOn, padded, stepOf, backFrom}
 use Rattle.desk.specs.declared.Desk.{Desk}
-use Rattle.desk.specs.Desk.{opening, noStep, opened, heldOf, stepOf, pushed, countOn, backFrom, edited, undoRefusal, undone, sendRefusal, sent}
+use Rattle.desk.specs.Desk.{opening, noStep, opened, edited, undoRefusal, undone, sendRefusal, sent}
 
 -- the opening record, byte by byte
 pub opening-written : opening ≡ replicate 8 0x20 ++ replicate 9 0xFF ++ replicate 8 0 ++ (0xFF ∷ 0 ∷ 0 ∷ 0xFF ∷ 0 ∷ 0 ∷ 0 ∷ 0 ∷ []) ++ replicate 8 0xFF ++ replicate 207 0
@@ -33,5 +36,5 @@ pub record Values : Type 0 where
   pub count-200 : heldOf 200 ≡ 32
 
 pub values : Values
-unfolding opened opening noStep heldOf stepOf pushed countOn backFrom edited undoRefusal undone sendRefusal sent stationRule stationByte timeRule timeByte decimal all oneOf pictureRule pictureClean soundRule soundByte items part broken rowOf refusedIn itemRefusal placeIn placeOf put cleanIn cleanOf partIn itemPart putIn putItem
+unfolding opened opening noStep heldOf padded stepOf pushed countOn backFrom edited undoRefusal undone sendRefusal sent stationRule stationByte timeRule timeByte decimal all oneOf pictureRule pictureClean soundRule soundByte items part broken rowOf refusedIn itemRefusal placeIn placeOf put cleanIn cleanOf partIn itemPart putIn putItem itemLent fitsIn itemFits putLeaves
 values = record { sent-on = refl; put-back = refl; step-gone = refl; none-left = refl; sound-0x1B = refl; count-200 = refl }

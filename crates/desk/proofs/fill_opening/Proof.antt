@@ -1,6 +1,6 @@
 -- `desk::fill_opening` meets its contract: the six items stored over zeros are the opening record.
 -- Assumes nothing.
-use Rattle.desk.proofs.Laws.Parts.{opening-stored}
+use Rattle.desk.proofs.Laws.Opening.{opening-stored}
 use borrow.Author.Needs.{needs}
 use Rattle.desk.proofs.fill_opening.Statement.{statement}
 use Rattle.desk.proofs.fill_opening.Tie as tie

@@ -1,70 +1,28 @@
 -- What a follower is and has heard after a packet: refused, or the first one, the next one, a repeat or a conflict.
 -- Assumes nothing.
 use mathlib.Core.Path.{_≡_, refl, sym, ap, ap₂, _∙_}
-use mathlib.Core.Bool.{Bool, true, false}
+use mathlib.Core.Bool.{true, false}
 use mathlib.Core.List.{List}
 use mathlib.Core.Option.{Option, none, some, Option·some-ne-none}
-use Prim.Native.Nat.{ℕ, suc, _+_, _-_, _%_, _≤_, _<_}
+use Prim.Native.Nat.{ℕ, suc, _+_, _%_, _≤_, _<_}
 use native.Mathlib.Omega.{arith}
-use lib.Dec.{eqb·suc-zero}
 use Rattle.refusal.specs.declared.Refusal.{Refusal}
 use Rattle.basics.specs.Each.{same}
-use Rattle.packet.specs.declared.Packet.{Packet}
-use Rattle.packet.specs.Reading.{indexOf, readFixed, readRefusal, readRecord}
-use Rattle.packet.specs.Answer.{packetOf}
-use Rattle.follower.specs.declared.Kind.{Kind}
-use Rattle.follower.specs.declared.Kind.the-variants.{First, Next, Repeat, Conflict}
+use Rattle.basics.proofs.Laws.Each.{same-self, same-other}
+use Rattle.sequence.specs.declared.Kind.{Kind}
+use Rattle.sequence.specs.declared.Kind.the-variants.{First, Next, Repeat, Conflict}
+use Rattle.sequence.specs.Sequence.{stepOf, kindOf, missedOf, repeatsIn, conflictsIn}
+use Rattle.sequence.specs.Onsets.{onsetsAfter}
+use Rattle.sequence.proofs.Laws.Sequence.{step-same, step-on, further}
+use Rattle.reading.specs.declared.Packet.{Packet}
+use Rattle.reading.specs.Reading.{indexOf, readFixed, readRefusal, readRecord}
+use Rattle.reading.specs.Answer.{packetOf}
 use Rattle.follower.specs.declared.Arrival.{Arrival}
 use Rattle.follower.specs.declared.Heard.the-variants.{Accepted, Refused}
 use Rattle.follower.specs.declared.Follower.{Follower}
 use Rattle.follower.specs.declared.Followed.{Followed}
-use Rattle.follower.specs.Follower.{ceiling, counted, stepOf, kindOf, missedOf, repeatsIn, conflictsIn, onsetBit, onsetByte, onsetsAfter, arrivedAs, arrivalOf, heldAfter, accepts, refusedAfter, refuses, followedBy, followed, opened, refusalIn}
+use Rattle.follower.specs.Follower.{ceiling, counted, arrivedAs, arrivalOf, heldAfter, accepts, refusedAfter, refuses, followedBy, followed, opened, refusalIn}
 use Rattle.follower.proofs.Laws.Count.{counted-le}
-use Rattle.basics.proofs.Laws.Each.{same-self, same-other}
-
--- ---- the step from one index to another
-
-pub step-same : (c : ℕ) → c < 16 → stepOf c c ≡ 0
-unfolding stepOf
-step-same c h = omega arith
-
--- m packets went by unheard
-pub step-on : (c m : ℕ) → c < 16 → m ≤ 14 → stepOf c ((c + 1 + m) % 16) ≡ suc m
-unfolding stepOf
-step-on c m h l = omega arith
-
-step-lt : (l n : ℕ) → stepOf l n < 16
-unfolding stepOf
-step-lt l n = omega arith
-
--- at most 14 for one arrival
-pub missed-le : (k : Kind) (l n : ℕ) → missedOf k (stepOf l n) ≤ 14
-missed-le First l n = omega arith
-missed-le Next l n = omega (arith, step-lt l n)
-missed-le Repeat l n = omega arith
-missed-le Conflict l n = omega arith
-
--- a step of one or more is the next packet
-further : (m : ℕ) (equal : Bool) → kindOf true (suc m) equal ≡ Next
-unfolding kindOf
-further m equal = rw eqb·suc-zero
-
--- ---- worked values
-
--- CI 15 then 0 misses none
-pub fifteen-zero : missedOf (kindOf true (stepOf 15 0) false) (stepOf 15 0) ≡ 0
-unfolding stepOf kindOf
-fifteen-zero = refl
-
--- CI 3 then 2 misses 14
-pub three-two : missedOf (kindOf true (stepOf 3 2) false) (stepOf 3 2) ≡ 14
-unfolding stepOf kindOf
-three-two = refl
-
--- of 0x3C, after 0x0F, the bits of 0x30 are onsets
-pub onsets-worked : onsetByte 0x0F 0x3C ≡ 0x30
-unfolding onsetByte onsetBit
-onsets-worked = refl
 
 -- ---- a packet that is refused
 

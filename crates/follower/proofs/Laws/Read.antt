@@ -5,11 +5,11 @@ use mathlib.Core.List.{List}
 use Prim.Native.Nat.{ℕ}
 use lib.ListN.{length}
 use Rattle.refusal.specs.declared.Refusal.{Refusal}
-use Rattle.packet.specs.declared.Packet.{Packet}
-use Rattle.packet.specs.declared.Reading.{Reading}
-use Rattle.packet.specs.declared.Reading.the-variants.{Accepted, Refused}
-use Rattle.packet.specs.Answer.{readingIntoOf, readLeaves}
-use Rattle.packet.proofs.Laws.Answer.{accepted-is, refused-is}
+use Rattle.reading.specs.declared.Packet.{Packet}
+use Rattle.reading.specs.declared.Reading.{Reading}
+use Rattle.reading.specs.declared.Reading.the-variants.{Accepted, Refused}
+use Rattle.reading.specs.Answer.{readingIntoOf, readLeaves}
+use Rattle.reading.proofs.Laws.Answer.{accepted-is, refused-is}
 use Rattle.follower.specs.declared.Follower.{Follower}
 use Rattle.follower.specs.Follower.{accepts, refuses, followed}
 

@@ -1,7 +1,7 @@
 -- The lines, written part by part.
 -- Assumes nothing.
 use mathlib.Core.Path.{_≡_, refl, sym, ap, _∙_}
-use mathlib.Core.List.{List, [], _∷_, _++_}
+use mathlib.Core.List.{List, [], _∷_}
 use mathlib.Core.Option.{Option, none, some}
 use Prim.Native.Nat.{ℕ, suc, _+_, _-_, _≤_, _<_}
 use native.Mathlib.Numerals.{add-one}
@@ -9,11 +9,11 @@ use native.Mathlib.Omega.{arith}
 use Rattle.refusal.specs.Number.{numberOf}
 use Rattle.refusal.specs.declared.Refusal.{Refusal}
 use Rattle.record.specs.Stored.{itemLent}
-use Rattle.packet.specs.declared.Packet.{Packet}
-use Rattle.packet.specs.declared.Reading.{Reading}
-use Rattle.packet.specs.declared.Reading.the-variants.{Accepted, Refused}
-use Rattle.packet.specs.Answer.{readingIntoOf, readLeaves}
-use Rattle.packet.proofs.Laws.Answer.{accepted-is, refused-is}
+use Rattle.reading.specs.declared.Packet.{Packet}
+use Rattle.reading.specs.declared.Reading.{Reading}
+use Rattle.reading.specs.declared.Reading.the-variants.{Accepted, Refused}
+use Rattle.reading.specs.Answer.{readingIntoOf, readLeaves}
+use Rattle.reading.proofs.Laws.Answer.{accepted-is, refused-is}
 use Rattle.b40.specs.declared.Head.{Head}
 use Rattle.b40.specs.declared.Unpacked.{Unpacked}
 use Rattle.b40.specs.declared.Unpacked.the-variants.{Done, Refused as NotDone}

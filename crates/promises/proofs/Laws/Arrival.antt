@@ -1,21 +1,21 @@
 -- A packet that comes over the line is read as the record that was sent in it.
 -- Assumes nothing.
-use mathlib.Core.Path.{_≡_, sym, ap, _∙_, subst}
+use mathlib.Core.Path.{_≡_, ap, _∙_, subst}
 use mathlib.Core.Bool.{true}
 use mathlib.Core.List.{List, _∷_, _++_}
 use mathlib.Core.Option.{none}
 use Prim.Native.Nat.{ℕ, _≤_}
 use lib.ListN.{length, take, drop}
 use lib.Seq.{take-at, drop-at}
-use Rattle.rs.specs.Codeword.{Bytes}
+use Rattle.basics.specs.Below.{Bytes}
 use Rattle.rs.specs.Decode.{changes}
-use Rattle.record.specs.Items.{recordOf}
+use Rattle.record.specs.Record.{recordOf}
 use Rattle.record.proofs.Laws.Stored.{Clean}
-use Rattle.packet.specs.Protected.{narrow}
-use Rattle.packet.specs.Layout.{headerWord, protectedWords, packetWords}
-use Rattle.packet.specs.Reading.{protectedOf, indexOf, readRefusal, readBytes, readRecord}
-use Rattle.packet.proofs.Laws.Layout.{carrying, packet-carries, Reads}
-use Rattle.packet.proofs.Laws.RoundTrip.{length-protected, protected-narrow, damaged-reads}
+use Rattle.anc.specs.Words.{narrow}
+use Rattle.writing.specs.Layout.{headerWord, protectedWords, packetWords}
+use Rattle.reading.specs.Reading.{protectedOf, indexOf, readRefusal, readBytes, readRecord}
+use Rattle.writing.proofs.Laws.Layout.{carrying, packet-carries, length-protected, protected-narrow}
+use Rattle.reading.proofs.Laws.RoundTrip.{damaged-reads}
 use Rattle.promises.specs.Line.{Delivers}
 
 -- it is accepted, with its index and its record

@@ -1,31 +1,26 @@
 -- Demand 2: a desk shows, and sends, the record that its history gives.
 -- Assumes nothing.
 use mathlib.Core.Path.{_≡_, refl, sym, ap, _∙_, subst}
-use mathlib.Core.Bool.{Bool, true, false, cond}
-use mathlib.Core.List.{List, [], _∷_}
+use mathlib.Core.Bool.{Bool, true, false}
+use mathlib.Core.List.{List}
 use mathlib.Core.Logic.{_⊎_, inl, inr}
-use mathlib.Core.Option.{Option, none, some}
+use mathlib.Core.Option.{none}
 use Prim.Native.Nat.{ℕ, _%_}
 use borrow.Author.Tests.{eqb-true}
 use lib.Dec.{eqb}
 use lib.ListN.{length}
-use Rattle.refusal.specs.Chain.{require, passed, leftBy}
-use Rattle.refusal.specs.Number.{refusalPlain}
-use Rattle.refusal.specs.declared.Reason.the-variants.{Room}
-use Rattle.record.specs.declared.Checked.the-variants.{Passed}
-use Rattle.record.specs.Checked.{checkedOf}
-use Rattle.record.specs.Item.{itemRefusal}
-use Rattle.record.proofs.Laws.Record.{Bytes}
-use Rattle.record.proofs.Laws.Checks.{told}
+use Rattle.refusal.specs.declared.Checked.the-variants.{Passed}
+use Rattle.items.specs.Item.{itemRefusal}
+use Rattle.basics.specs.Below.{Bytes}
+use Rattle.refusal.proofs.Laws.Chain.{told}
 use Rattle.record.proofs.Laws.Stored.{store-bytes}
-use Rattle.packet.specs.Layout.{packetWords}
-use Rattle.packet.proofs.Laws.Record.{bytes-getD}
+use Rattle.writing.specs.Layout.{packetWords}
 use Rattle.desk.specs.declared.Desk.{Desk}
 use Rattle.desk.specs.declared.Turn.{Turn}
-use Rattle.desk.specs.Desk.{opening, edited, undone, sent, sendRefusal, sendLeaves}
+use Rattle.desk.specs.Desk.{edited, undone, sent, sendLeaves}
 use Rattle.desk.specs.Model.{Model, fresh, editM, undoTo, sendM}
 use Rattle.desk.proofs.Laws.Model.{Stands, Holds, open-stands, edit-stands, undo-stands, send-stands, send-by-room, sent-words, undo-edit, undo-index, edit-holds, undo-holds, send-holds, opening-bytes}
-use Rattle.promises.specs.Calls.{Opens, Edits, Undoes, Sends}
+use Rattle.promises.specs.Calls.{Edits, Undoes, Sends}
 use Rattle.promises.specs.History.{Turns, edits, undoes, History, opens, turns, sends}
 use Rattle.promises.proofs.Laws.Calls.{opens-is, edits-is, undoes-is, sends-is, sends-leaves}
 
@@ -98,7 +93,7 @@ unfolding fresh
 open-bytes = record { present = opening-bytes; earlier = tt }
 
 turn-bytes : (d : Desk) (m : Model) (d′ : Desk) (m′ : Model) → Holds Bytes m → Turns d m d′ m′ → Holds Bytes m′
-turn-bytes d m d′ m′ b (edits {item = item} {bytes = bytes} E) = edit-holds Bytes item bytes m (λ a p. store-bytes item bytes (m .present) (bytes-getD bytes (E .are-bytes)) p) b
+turn-bytes d m d′ m′ b (edits {item = item} {bytes = bytes} E) = edit-holds Bytes item bytes m (λ a p. store-bytes item bytes (m .present) (E .are-bytes) p) b
 turn-bytes d m d′ m′ b (undoes U) = undo-holds Bytes m b
 
 pub history-bytes : (on : Bool) (d : Desk) (m : Model) → History on d m → Holds Bytes m

@@ -8,24 +8,24 @@ use Prim.Native.Nat.{ℕ, _+_, _%_, _≤_}
 use native.Mathlib.Omega.{arith}
 use lib.ListN.{length}
 use Rattle.basics.proofs.Laws.Test.{never}
-use Rattle.rs.specs.Codeword.{Bytes}
-use Rattle.rs.proofs.Laws.Polynomial.{bytes-at}
+use Rattle.basics.specs.Below.{Bytes}
 use Rattle.record.proofs.Laws.Stored.{Clean}
-use Rattle.packet.specs.Layout.{packetWords}
-use Rattle.packet.specs.Protected.{narrow}
-use Rattle.packet.specs.Reading.{indexOf, protectedOf}
+use Rattle.writing.specs.Layout.{packetWords}
+use Rattle.anc.specs.Words.{narrow}
+use Rattle.reading.specs.Reading.{indexOf, protectedOf}
 use Rattle.desk.specs.declared.Desk.{Desk}
 use Rattle.desk.specs.declared.Turn.{Turn}
 use Rattle.desk.specs.Model.{Model, sendM}
 use Rattle.desk.proofs.Laws.Model.{edit-sends, undo-sends, one-sent}
-use Rattle.follower.specs.declared.Kind.{Kind}
-use Rattle.follower.specs.declared.Kind.the-variants.{First, Next, Repeat}
+use Rattle.sequence.specs.declared.Kind.{Kind}
+use Rattle.sequence.specs.declared.Kind.the-variants.{First, Next, Repeat}
+use Rattle.sequence.specs.Sequence.{repeatsIn}
 use Rattle.follower.specs.declared.Follower.{Follower}
 use Rattle.follower.specs.declared.Followed.{Followed}
 use Rattle.follower.specs.declared.Heard.{Heard}
-use Rattle.follower.specs.Follower.{counted, repeatsIn, refusalIn, followed, opened}
+use Rattle.follower.specs.Follower.{counted, refusalIn, followed, opened}
 use Rattle.follower.proofs.Laws.Count.{counted-none, counted-again}
-use Rattle.follower.proofs.Laws.Follow.{Holds, accepted-holds, Arrived, first-kind, next-kind, repeat-kind}
+use Rattle.follower.proofs.Laws.Follow.{accepted-holds, Arrived, first-kind, next-kind, repeat-kind}
 use Rattle.promises.specs.Calls.{Opens, Sends, Begins, Follows}
 use Rattle.promises.specs.History.{Turns, edits, undoes, History, opens, turns, sends}
 use Rattle.promises.specs.Line.{Delivers, Fate, unsent, waiting, dropped, delivered, Scene, opening, turned, sent, lost, heard, Line, opens, turns, sends, drops, delivers, repeats, Agrees}
@@ -158,7 +158,7 @@ module _ (s : Scene) (K : Known s) (free : s .fate ≡ waiting → ⊥) (old : L
         sends = one-sent m;
         words = sent-is true (s .desk) m (K .desk) old t left S n .1;
         clean = stood .clean .present;
-        small = bytes-at (m .present) (history-bytes true (s .desk) m (K .desk) .present);
+        small = history-bytes true (s .desk) m (K .desk) .present;
       }
 
   sent-known : Known (sent s (t .desk) left)

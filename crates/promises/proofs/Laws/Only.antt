@@ -1,7 +1,7 @@
 -- Each call's answer is the only one that its contract allows, and so is what it leaves in a buffer that it was lent. `Learnt` is the
 -- contract as its caller may use it.
 -- Assumes nothing.
-use mathlib.Core.Path.{_≡_, sym, _∙_}
+use mathlib.Core.Path.{refl, sym, _∙_}
 use denote.Ref.{now}
 use Rattle.promises.specs.Only.{OneAnswer, OnePart, OneOutcome}
 use Rattle.gf256.proofs.Laws.Tables.{powers-unique, logs-unique}
@@ -12,12 +12,34 @@ use Rattle.refusal.proofs.plain.Kinds as plain-types
 use Rattle.refusal.proofs.plain.Reads as plain-contract
 use Rattle.refusal.proofs.at.Kinds as at-types
 use Rattle.refusal.proofs.at.Reads as at-contract
+use Rattle.refusal.proofs.then.Kinds as then-types
+use Rattle.refusal.proofs.then.Reads as then-contract
 use Rattle.anc.proofs.word_of.Kinds as word-of-types
 use Rattle.anc.proofs.word_of.Reads as word-of-contract
 use Rattle.anc.proofs.is_sound.Kinds as is-sound-types
 use Rattle.anc.proofs.is_sound.Reads as is-sound-contract
 use Rattle.anc.proofs.checksum.Kinds as checksum-types
 use Rattle.anc.proofs.checksum.Reads as checksum-contract
+use Rattle.anc.proofs.has_flag.Kinds as has-flag-types
+use Rattle.anc.proofs.has_flag.Reads as has-flag-contract
+use Rattle.anc.proofs.narrow.Kinds as narrow-types
+use Rattle.anc.proofs.narrow.Reads as narrow-contract
+use Rattle.anc.proofs.low_bytes.Kinds as low-bytes-types
+use Rattle.anc.proofs.low_bytes.Reads as low-bytes-contract
+use Rattle.anc.proofs.sound_words.Kinds as sound-words-types
+use Rattle.anc.proofs.sound_words.Reads as sound-words-contract
+use Rattle.rules.proofs.station.Kinds as station-types
+use Rattle.rules.proofs.station.Reads as station-contract
+use Rattle.rules.proofs.time.Kinds as time-types
+use Rattle.rules.proofs.time.Reads as time-contract
+use Rattle.rules.proofs.picture.Kinds as picture-types
+use Rattle.rules.proofs.picture.Reads as picture-contract
+use Rattle.rules.proofs.picture_clean.Kinds as picture-clean-types
+use Rattle.rules.proofs.picture_clean.Reads as picture-clean-contract
+use Rattle.rules.proofs.sound_byte.Kinds as sound-byte-types
+use Rattle.rules.proofs.sound_byte.Reads as sound-byte-contract
+use Rattle.repair.proofs.count_fixed.Kinds as count-fixed-types
+use Rattle.repair.proofs.count_fixed.Reads as count-fixed-contract
 use Rattle.gf256.proofs.powers.Kinds as powers-types
 use Rattle.gf256.proofs.powers.Reads as powers-contract
 use Rattle.gf256.proofs.logs.Kinds as logs-types
@@ -50,10 +72,12 @@ use Rattle.record.proofs.write_record.Kinds as write-record-types
 use Rattle.record.proofs.write_record.Reads as write-record-contract
 use Rattle.record.proofs.private_part.Kinds as private-part-types
 use Rattle.record.proofs.private_part.Reads as private-part-contract
-use Rattle.record.proofs.item_place.Kinds as item-place-types
-use Rattle.record.proofs.item_place.Reads as item-place-contract
-use Rattle.record.proofs.item_refusal.Kinds as item-refusal-types
-use Rattle.record.proofs.item_refusal.Reads as item-refusal-contract
+use Rattle.items.proofs.is_picture.Kinds as is-picture-types
+use Rattle.items.proofs.is_picture.Reads as is-picture-contract
+use Rattle.items.proofs.item_place.Kinds as item-place-types
+use Rattle.items.proofs.item_place.Reads as item-place-contract
+use Rattle.items.proofs.item_refusal.Kinds as item-refusal-types
+use Rattle.items.proofs.item_refusal.Reads as item-refusal-contract
 use Rattle.record.proofs.item_part.Kinds as item-part-types
 use Rattle.record.proofs.item_part.Reads as item-part-contract
 use Rattle.record.proofs.put_item.Kinds as put-item-types
@@ -62,14 +86,24 @@ use Rattle.record.proofs.store_item.Kinds as store-item-types
 use Rattle.record.proofs.store_item.Reads as store-item-contract
 use Rattle.view.proofs.read_record.Kinds as read-record-types
 use Rattle.view.proofs.read_record.Reads as read-record-contract
-use Rattle.packet.proofs.repair.Kinds as packet-repair-types
-use Rattle.packet.proofs.repair.Reads as packet-repair-contract
-use Rattle.packet.proofs.write_packet.Kinds as write-packet-types
-use Rattle.packet.proofs.write_packet.Reads as write-packet-contract
-use Rattle.packet.proofs.read_packet.Kinds as read-packet-types
-use Rattle.packet.proofs.read_packet.Reads as read-packet-contract
-use Rattle.packet.proofs.read_packet_into.Kinds as read-packet-into-types
-use Rattle.packet.proofs.read_packet_into.Reads as read-packet-into-contract
+use Rattle.repair.proofs.repair.Kinds as packet-repair-types
+use Rattle.repair.proofs.repair.Reads as packet-repair-contract
+use Rattle.writing.proofs.write_packet.Kinds as write-packet-types
+use Rattle.writing.proofs.write_packet.Reads as write-packet-contract
+use Rattle.reading.proofs.read_packet.Kinds as read-packet-types
+use Rattle.reading.proofs.read_packet.Reads as read-packet-contract
+use Rattle.reading.proofs.read_packet_into.Kinds as read-packet-into-types
+use Rattle.reading.proofs.read_packet_into.Reads as read-packet-into-contract
+use Rattle.steps.proofs.held.Kinds as held-types
+use Rattle.steps.proofs.held.Reads as held-contract
+use Rattle.steps.proofs.count_on.Kinds as count-on-types
+use Rattle.steps.proofs.count_on.Reads as count-on-contract
+use Rattle.steps.proofs.step_of.Kinds as history-step-types
+use Rattle.steps.proofs.step_of.Reads as history-step-contract
+use Rattle.steps.proofs.push.Kinds as push-types
+use Rattle.steps.proofs.push.Reads as push-contract
+use Rattle.steps.proofs.put_back.Kinds as put-back-types
+use Rattle.steps.proofs.put_back.Reads as put-back-contract
 use Rattle.desk.proofs.Desk.open.Kinds as desk-open-types
 use Rattle.desk.proofs.Desk.open.Reads as desk-open-contract
 use Rattle.desk.proofs.Desk.edit.Kinds as desk-edit-types
@@ -78,6 +112,20 @@ use Rattle.desk.proofs.Desk.undo.Kinds as desk-undo-types
 use Rattle.desk.proofs.Desk.undo.Reads as desk-undo-contract
 use Rattle.desk.proofs.Desk.send.Kinds as desk-send-types
 use Rattle.desk.proofs.Desk.send.Reads as desk-send-contract
+use Rattle.sequence.proofs.step_of.Kinds as index-step-types
+use Rattle.sequence.proofs.step_of.Reads as index-step-contract
+use Rattle.sequence.proofs.same.Kinds as same-types
+use Rattle.sequence.proofs.same.Reads as same-contract
+use Rattle.sequence.proofs.kind_of.Kinds as kind-of-types
+use Rattle.sequence.proofs.kind_of.Reads as kind-of-contract
+use Rattle.sequence.proofs.missed_of.Kinds as missed-of-types
+use Rattle.sequence.proofs.missed_of.Reads as missed-of-contract
+use Rattle.sequence.proofs.onsets.onsets.Kinds as onsets-types
+use Rattle.sequence.proofs.onsets.onsets.Reads as onsets-contract
+use Rattle.sequence.proofs.counts.repeats.Kinds as repeats-types
+use Rattle.sequence.proofs.counts.repeats.Reads as repeats-contract
+use Rattle.sequence.proofs.counts.conflicts.Kinds as conflicts-types
+use Rattle.sequence.proofs.counts.conflicts.Reads as conflicts-contract
 use Rattle.follower.proofs.Follower.open.Kinds as follower-open-types
 use Rattle.follower.proofs.Follower.open.Reads as follower-open-contract
 use Rattle.follower.proofs.Follower.follow.Kinds as follower-follow-types
@@ -88,6 +136,20 @@ use Rattle.b40.proofs.unpack.Kinds as unpack-types
 use Rattle.b40.proofs.unpack.Reads as unpack-contract
 use Rattle.lines.proofs.show.Kinds as show-types
 use Rattle.lines.proofs.show.Reads as show-contract
+use Rattle.answers.proofs.checked.Kinds as answer-checked-types
+use Rattle.answers.proofs.checked.Reads as answer-checked-contract
+use Rattle.answers.proofs.written.Kinds as answer-written-types
+use Rattle.answers.proofs.written.Reads as answer-written-contract
+use Rattle.answers.proofs.packet.Kinds as answer-packet-types
+use Rattle.answers.proofs.packet.Reads as answer-packet-contract
+use Rattle.answers.proofs.repaired.Kinds as answer-repaired-types
+use Rattle.answers.proofs.repaired.Reads as answer-repaired-contract
+use Rattle.answers.proofs.field.Kinds as answer-field-types
+use Rattle.answers.proofs.field.Reads as answer-field-contract
+use Rattle.answers.proofs.turn.Kinds as answer-turn-types
+use Rattle.answers.proofs.turn.Reads as answer-turn-contract
+use Rattle.answers.proofs.followed.Kinds as answer-followed-types
+use Rattle.answers.proofs.followed.Reads as answer-followed-contract
 use Rattle.capi.proofs.ay_word_of.Kinds as ay-word-of-types
 use Rattle.capi.proofs.ay_word_of.Reads as ay-word-of-contract
 use Rattle.capi.proofs.ay_is_sound.Kinds as ay-is-sound-types
@@ -132,6 +194,9 @@ plain κs i a b s t p q = p ∙ sym q
 pub at : OneAnswer 0 at-types.ps at-types.r at-contract.Learnt
 at κs i a b s t p q = p ∙ sym q
 
+pub then : OneAnswer 0 then-types.ps then-types.r then-contract.Learnt
+then κs i a b s t p q = p ∙ sym q
+
 -- ---- anc
 
 pub word-of : OneAnswer 0 word-of-types.ps word-of-types.r word-of-contract.Learnt
@@ -142,6 +207,18 @@ is-sound κs i a b s t p q = p ∙ sym q
 
 pub checksum : OneAnswer 1 checksum-types.ps checksum-types.r checksum-contract.Learnt
 checksum κs i a b s t p q = p ∙ sym q
+
+pub has-flag : OneAnswer 1 has-flag-types.ps has-flag-types.r has-flag-contract.Learnt
+has-flag κs i a b s t p q = p ∙ sym q
+
+pub narrow : OneAnswer 1 narrow-types.ps narrow-types.r narrow-contract.Learnt
+narrow κs i a b s t p q = p ∙ sym q
+
+pub low-bytes : OneOutcome 2 low-bytes-types.ps low-bytes-types.r (λ κs s. now (s .1 .0)) low-bytes-contract.Learnt
+low-bytes κs i a b s t p q = (p .0 ∙ sym (q .0), p .1 ∙ sym (q .1))
+
+pub sound-words : OneOutcome 2 sound-words-types.ps sound-words-types.r (λ κs s. now (s .1 .0)) sound-words-contract.Learnt
+sound-words κs i a b s t p q = (p .0 ∙ sym (q .0), p .1 ∙ sym (q .1))
 
 -- ---- gf256
 
@@ -188,6 +265,34 @@ remainder κs i a b s t p q = p ∙ sym q
 pub search-repair : OneOutcome 1 search-repair-types.ps search-repair-types.r (λ κs s. now (s .0)) search-repair-contract.Learnt
 search-repair κs i a b s t p q = (p .0 ∙ sym (q .0), p .1 ∙ sym (q .1))
 
+-- ---- rules
+
+pub station : OneAnswer 1 station-types.ps station-types.r station-contract.Learnt
+station κs i a b s t p q = p ∙ sym q
+
+pub time : OneAnswer 1 time-types.ps time-types.r time-contract.Learnt
+time κs i a b s t p q = p ∙ sym q
+
+pub picture : OneAnswer 1 picture-types.ps picture-types.r picture-contract.Learnt
+picture κs i a b s t p q = p ∙ sym q
+
+pub picture-clean : OneAnswer 1 picture-clean-types.ps picture-clean-types.r picture-clean-contract.Learnt
+picture-clean κs i a b s t p q = p ∙ sym q
+
+pub sound-byte : OneAnswer 0 sound-byte-types.ps sound-byte-types.r sound-byte-contract.Learnt
+sound-byte κs i a b s t p q = p ∙ sym q
+
+-- ---- items
+
+pub item-place : OneAnswer 0 item-place-types.ps item-place-types.r item-place-contract.Learnt
+item-place κs i a b s t p q = p ∙ sym q
+
+pub item-refusal : OneAnswer 1 item-refusal-types.ps item-refusal-types.r item-refusal-contract.Learnt
+item-refusal κs i a b s t p q = p ∙ sym q
+
+pub is-picture : OneAnswer 0 is-picture-types.ps is-picture-types.r is-picture-contract.Learnt
+is-picture κs i a b s t p q = p ∙ sym q
+
 -- ---- record
 
 pub record-refusal : OneAnswer 1 record-refusal-types.ps record-refusal-types.r record-refusal-contract.Learnt
@@ -198,12 +303,6 @@ write-record κs i a b s t p q = (p .0 ∙ sym (q .0), p .1 ∙ sym (q .1))
 
 pub private-part : OnePart 1 private-part-types.ps private-part-types.r (λ κs a. now a) private-part-contract.Learnt
 private-part κs i a b s t p q = p ∙ sym q
-
-pub item-place : OneAnswer 0 item-place-types.ps item-place-types.r item-place-contract.Learnt
-item-place κs i a b s t p q = p ∙ sym q
-
-pub item-refusal : OneAnswer 1 item-refusal-types.ps item-refusal-types.r item-refusal-contract.Learnt
-item-refusal κs i a b s t p q = p ∙ sym q
 
 pub item-part : OnePart 1 item-part-types.ps item-part-types.r (λ κs a. now a) item-part-contract.Learnt
 item-part κs i a b s t p q = p ∙ sym q
@@ -219,10 +318,13 @@ store-item κs i a b s t p q = (p .0 ∙ sym (q .0), p .1 ∙ sym (q .1))
 pub read-record : OneAnswer 1 read-record-types.ps read-record-types.r read-record-contract.Learnt
 read-record κs i a b s t p q = p ∙ sym q
 
--- ---- packet
+-- ---- repair, writing and reading
 
 pub packet-repair : OneOutcome 2 packet-repair-types.ps packet-repair-types.r (λ κs s. now (s .1 .0)) packet-repair-contract.Learnt
 packet-repair κs i a b s t p q = (p .0 ∙ sym (q .0), p .1 ∙ sym (q .1))
+
+pub count-fixed : OneAnswer 2 count-fixed-types.ps count-fixed-types.r count-fixed-contract.Learnt
+count-fixed κs i a b s t p q = p ∙ sym q
 
 pub write-packet : OneOutcome 2 write-packet-types.ps write-packet-types.r (λ κs s. now (s .1 .1 .1 .0)) write-packet-contract.Learnt
 write-packet κs i a b s t p q = (p .0 ∙ sym (q .0), p .1 ∙ sym (q .1))
@@ -232,6 +334,23 @@ read-packet κs i a b s t p q = p ∙ sym q
 
 pub read-packet-into : OneOutcome 2 read-packet-into-types.ps read-packet-into-types.r (λ κs s. now (s .1 .0)) read-packet-into-contract.Learnt
 read-packet-into κs i a b s t p q = (p .0 ∙ sym (q .0), p .1 ∙ sym (q .1))
+
+-- ---- steps
+
+pub held : OneAnswer 0 held-types.ps held-types.r held-contract.Learnt
+held κs i a b s t p q = p .0 ∙ sym (q .0)
+
+pub count-on : OneAnswer 0 count-on-types.ps count-on-types.r count-on-contract.Learnt
+count-on κs i a b s t p q = p ∙ sym q
+
+pub history-step : OneAnswer 1 history-step-types.ps history-step-types.r history-step-contract.Learnt
+history-step κs i a b s t p q = p ∙ sym q
+
+pub push : OneAnswer 0 push-types.ps push-types.r push-contract.Learnt
+push κs i a b s t p q = p ∙ sym q
+
+pub put-back : OneOutcome 1 put-back-types.ps put-back-types.r (λ κs s. now (s .1 .0)) put-back-contract.Learnt
+put-back κs i a b s t p q = (refl, p ∙ sym q)
 
 -- ---- desk
 
@@ -246,6 +365,29 @@ desk-undo κs i a b s t p q = p ∙ sym q
 
 pub desk-send : OneOutcome 1 desk-send-types.ps desk-send-types.r (λ κs s. now (s .1 .0)) desk-send-contract.Learnt
 desk-send κs i a b s t p q = (p .0 ∙ sym (q .0), p .1 ∙ sym (q .1))
+
+-- ---- sequence
+
+pub index-step : OneAnswer 0 index-step-types.ps index-step-types.r index-step-contract.Learnt
+index-step κs i a b s t p q = p ∙ sym q
+
+pub same : OneAnswer 2 same-types.ps same-types.r same-contract.Learnt
+same κs i a b s t p q = p ∙ sym q
+
+pub kind-of : OneAnswer 0 kind-of-types.ps kind-of-types.r kind-of-contract.Learnt
+kind-of κs i a b s t p q = p ∙ sym q
+
+pub missed-of : OneAnswer 0 missed-of-types.ps missed-of-types.r missed-of-contract.Learnt
+missed-of κs i a b s t p q = p ∙ sym q
+
+pub onsets : OneAnswer 2 onsets-types.ps onsets-types.r onsets-contract.Learnt
+onsets κs i a b s t p q = p ∙ sym q
+
+pub repeats : OneAnswer 0 repeats-types.ps repeats-types.r repeats-contract.Learnt
+repeats κs i a b s t p q = p ∙ sym q
+
+pub conflicts : OneAnswer 0 conflicts-types.ps conflicts-types.r conflicts-contract.Learnt
+conflicts κs i a b s t p q = p ∙ sym q
 
 -- ---- follower
 
@@ -267,6 +409,29 @@ unpack κs i a b s t p q = (p .0 ∙ sym (q .0), p .1 ∙ sym (q .1))
 
 pub show : OneAnswer 1 show-types.ps show-types.r show-contract.Learnt
 show κs i a b s t p q = p .0 ∙ sym (q .0)
+
+-- ---- answers
+
+pub answer-checked : OneAnswer 0 answer-checked-types.ps answer-checked-types.r answer-checked-contract.Learnt
+answer-checked κs i a b s t p q = p ∙ sym q
+
+pub answer-written : OneAnswer 0 answer-written-types.ps answer-written-types.r answer-written-contract.Learnt
+answer-written κs i a b s t p q = p ∙ sym q
+
+pub answer-packet : OneAnswer 0 answer-packet-types.ps answer-packet-types.r answer-packet-contract.Learnt
+answer-packet κs i a b s t p q = p ∙ sym q
+
+pub answer-repaired : OneAnswer 0 answer-repaired-types.ps answer-repaired-types.r answer-repaired-contract.Learnt
+answer-repaired κs i a b s t p q = p ∙ sym q
+
+pub answer-field : OneAnswer 0 answer-field-types.ps answer-field-types.r answer-field-contract.Learnt
+answer-field κs i a b s t p q = p ∙ sym q
+
+pub answer-turn : OneAnswer 0 answer-turn-types.ps answer-turn-types.r answer-turn-contract.Learnt
+answer-turn κs i a b s t p q = p ∙ sym q
+
+pub answer-followed : OneAnswer 0 answer-followed-types.ps answer-followed-types.r answer-followed-contract.Learnt
+answer-followed κs i a b s t p q = p ∙ sym q
 
 -- ---- capi
 

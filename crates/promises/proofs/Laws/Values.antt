@@ -5,13 +5,13 @@ use Rattle.gf256.specs.Field.{_⊕_, _⊗_, byBits, double}
 use Rattle.anc.specs.Word.{wordOf, withB9, bit, ones, parityOf as evenParity, total, checksumOf}
 use Rattle.rs.specs.Polynomial.{_⊞_, scale}
 use Rattle.rs.specs.Codeword.{parityOf, remainder, next, divisorBytes}
-use Rattle.record.specs.Rules.{soundByte, oneOf, pictureRule, lowHalf, timeByte, decimal}
-use Rattle.packet.specs.Protected.{soundWords}
-use Rattle.packet.specs.Layout.{packetWords, summedWords, kind, flag, headerWord, protectedWords}
-use Rattle.record.specs.Items.{items}
-use Rattle.record.specs.Item.{rowOf, put, putIn, putItem}
+use Rattle.rules.specs.Rules.{soundByte, oneOf, pictureRule, lowHalf, timeByte, decimal}
+use Rattle.anc.specs.Words.{soundWords, flag}
+use Rattle.writing.specs.Layout.{packetWords, summedWords, kind, headerWord, protectedWords}
+use Rattle.items.specs.Items.{items}
+use Rattle.items.specs.Item.{rowOf, put, putIn, putItem}
 use Rattle.desk.specs.Desk.{opening}
-use Rattle.follower.specs.Follower.{stepOf, kindOf}
+use Rattle.sequence.specs.Sequence.{stepOf, kindOf}
 use Rattle.promises.specs.Values.{Values}
 
 pub values : Values

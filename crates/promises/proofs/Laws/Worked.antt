@@ -12,14 +12,14 @@ use lib.Dec.{leb, lit<}
 use lib.ListN.{length, take, drop, replicate, length-drop}
 use Rattle.basics.specs.Each.{all}
 use Rattle.basics.proofs.Laws.Test.{both-true, never}
-use Rattle.rs.specs.Codeword.{Bytes}
+use Rattle.basics.specs.Below.{Bytes}
 use Rattle.rs.specs.Decode.{changes}
 use Rattle.rs.proofs.Laws.Distance.{differ-le, changes-self}
-use Rattle.record.specs.Rules.{soundRule, soundByte, oneOf}
-use Rattle.record.specs.Items.{items}
-use Rattle.record.specs.Item.{rowOf, refusedIn, itemRefusal}
-use Rattle.packet.specs.Protected.{narrow}
-use Rattle.packet.specs.Reading.{protectedOf}
+use Rattle.rules.specs.Rules.{soundRule, soundByte, oneOf}
+use Rattle.items.specs.Items.{items}
+use Rattle.items.specs.Item.{rowOf, refusedIn, itemRefusal}
+use Rattle.anc.specs.Words.{narrow}
+use Rattle.reading.specs.Reading.{protectedOf}
 use Rattle.desk.specs.declared.Desk.{Desk}
 use Rattle.desk.specs.Desk.{opened, edited, undone, sent, sendLeaves, opening as desk-opening}
 use Rattle.desk.specs.Model.{Model, fresh, editM, undoTo, sendM}
@@ -28,7 +28,7 @@ use Rattle.follower.specs.declared.Heard.{Heard}
 use Rattle.follower.specs.Follower.{followed, opened as begun}
 use Rattle.follower.proofs.Laws.Count.{counted-true}
 use Rattle.promises.specs.Calls.{Opens, Edits, Undoes, Sends, Begins, Follows}
-use Rattle.promises.specs.Line.{Delivers, Fate, unsent, waiting, dropped, delivered, Scene, opening, sent as send-to, turned, lost, heard, Line, opens, turns, sends, drops, delivers, repeats, Agrees}
+use Rattle.promises.specs.Line.{Delivers, Fate, unsent, waiting, dropped, delivered, Scene, sent as send-to, turned, heard, Line, opens, turns, sends, drops, delivers, repeats}
 use Rattle.promises.specs.History.{edits, undoes}
 use Rattle.promises.proofs.Laws.Line.{Ordinary, waiting-ordinary, delivered-ordinary, demand-3}
 

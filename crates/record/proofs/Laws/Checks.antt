@@ -1,47 +1,27 @@
--- The refusal in an answer, the checks of 248 bytes, one after the other, and what a test that a call answered says of the rule.
+-- The checks of 248 bytes, one after the other.
 -- Assumes nothing.
-use mathlib.Core.Path.{_≡_, refl, sym, ap, _∙_}
-use mathlib.Core.Bool.{Bool, true, false, not}
+use mathlib.Core.Path.{_≡_, refl}
 use mathlib.Core.List.{List}
-use mathlib.Core.Option.{Option, none, some}
 use Prim.Native.Nat.{ℕ}
 use native.Mathlib.Omega.{arith}
 use lib.ListN.{length, getD, take, drop}
-use borrow.Author.Tests.{not-true, not-false, eqb-true}
-use Rattle.refusal.proofs.Laws.Chain.{require-passed}
+use borrow.Author.Tests.{eqb-true}
+use Rattle.refusal.proofs.Laws.Chain.{require-passed, told}
 use Rattle.refusal.specs.Chain.{require, passed}
 use Rattle.refusal.specs.Number.{refusalAt}
 use Rattle.refusal.specs.declared.Reason.the-variants.{Station, Time, Picture, Sound}
-use Rattle.refusal.specs.declared.Refusal.{Refusal}
-use Rattle.record.specs.declared.Checked.{Checked}
-use Rattle.record.specs.declared.Checked.the-variants.{Passed}
-use Rattle.record.specs.Checked.{checkedOf, refusalIn}
-use Rattle.record.specs.Rules.{stationRule, timeRule, pictureRule, soundByte, soundRule}
-use Rattle.record.specs.Items.{items, part, broken, recordRefusal}
-use Rattle.record.proofs.Laws.Rules.{sound-part}
-
--- ---- an answer tells its refusal
-
-pub refusal-in : (o : Option Refusal) → refusalIn (checkedOf o) ≡ o
-refusal-in none = refl
-refusal-in (some no′) = refl
-
--- the refusal of an answer that turned out to be b
-pub told : (o : Option Refusal) (a b : Checked) → a ≡ checkedOf o → a ≡ b → o ≡ refusalIn b
-told o a b e d = sym (refusal-in o) ∙ ap refusalIn (sym e ∙ d)
+use Rattle.refusal.specs.declared.Checked.{Checked}
+use Rattle.refusal.specs.declared.Checked.the-variants.{Passed}
+use Rattle.refusal.specs.Checked.{checkedOf}
+use Rattle.rules.specs.Rules.{stationRule, timeRule, pictureRule, soundByte, soundRule}
+use Rattle.record.specs.Record.{broken, recordRefusal}
+use Rattle.items.specs.Items.{items, part}
+use Rattle.rules.proofs.Laws.Rules.{sound-part}
 
 -- bytes that pass the check are 248
 pub passed-long : (bytes : List ℕ) (a : Checked) → a ≡ checkedOf (recordRefusal bytes) → a ≡ Passed → length bytes ≡ 248
 unfolding recordRefusal
 passed-long bytes a e d = eqb-true _ _ (require-passed _ _ _ (told (recordRefusal bytes) a Passed e d) .0)
-
--- ---- a test that a call answered
-
-pub passes : {r s : Bool} → r ≡ s → not r ≡ false → s ≡ true
-passes {r} e h = sym e ∙ not-false r h
-
-pub fails : {r s : Bool} → r ≡ s → not r ≡ true → s ≡ false
-fails {r} e h = sym e ∙ not-true r h
 
 -- ---- the items that have a rule, in the order of their bytes
 

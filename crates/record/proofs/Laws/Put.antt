@@ -7,7 +7,7 @@ use native.Mathlib.Nat.{zero-add}
 use native.Mathlib.Omega.{arith}
 use lib.ListN.{length, take, drop, length-append, length-drop, take-append-drop}
 use lib.Seq.{length-take-le, take-at, drop-at, drop-drop}
-use Rattle.record.specs.Item.{put}
+use Rattle.items.specs.Item.{put}
 use Rattle.basics.proofs.Laws.Parts.{part-same}
 
 module _ (old new : List ℕ) (at : ℕ) (fits : at + length new ≤ length old) where

@@ -3,20 +3,24 @@
 -- Assumes nothing.
 use mathlib.Core.Path.{_≡_, refl, sym, ap, _∙_}
 use mathlib.Core.Bool.{true, false}
-use mathlib.Core.List.{List, [], _∷_, _++_, append-nil, append-assoc}
-use Prim.Native.Nat.{ℕ, zero, suc, _+_, _<_}
+use mathlib.Core.List.{List, [], _++_, append-nil, append-assoc}
+use Prim.Native.Nat.{ℕ, _+_, _<_}
 use native.Mathlib.Nat.{zero-add}
 use native.Mathlib.Omega.{arith}
 use lib.ListN.{length, getD, take, drop, replicate, length-append, length-drop, getD-replicate, take-append-drop}
 use lib.Seq.{length-take-le, take-at, drop-at, drop-drop, getD-take, getD-drop}
-use borrow.Author.Tests.{ne-eqb}
+use lib.Dec.{lit<}
+use borrow.Author.Tests.{eq-eqb, ne-eqb}
 use borrow.Rule.Slice.PartMut.{putMid}
-use Rattle.record.specs.Rules.{pictureClean}
-use Rattle.record.specs.Items.{items, part, cleaned, recordOf, recordRefusal}
+use Rattle.rules.specs.Rules.{pictureClean}
+use Rattle.record.specs.Record.{cleaned, recordOf, broken, recordRefusal}
+use Rattle.items.specs.Items.{items, part}
 use Rattle.record.specs.Written.{fits, written}
-use Rattle.basics.proofs.Laws.Parts.{join, skip, part-same, entry-same, over}
+use Rattle.basics.specs.Below.{Bytes}
+use Rattle.basics.proofs.Laws.Below.{entry-below, append-below, take-below, drop-below, replicate-below}
+use Rattle.basics.proofs.Laws.Parts.{run-length, join, skip, part-same, entry-same, over}
 use Rattle.record.proofs.Laws.Checks.{six-checks}
-use Rattle.record.proofs.Laws.Clean.{clean-length, clean-bytes, clean-again, clean-rule}
+use Rattle.rules.proofs.Laws.Clean.{clean-length, clean-bytes, clean-again, clean-rule}
 
 -- ---- six runs: up to the picture modes, the two modes, from there to the reserved area, that, and the private area
 
@@ -74,15 +78,12 @@ pub record-runs : (bytes : List ℕ) → recordOf bytes ≡ runs (take 17 bytes)
 unfolding recordOf
 record-runs bytes = rw (cleaned-runs bytes) (simp append-assoc)
 
-part-length : (l : List ℕ) (n s : ℕ) → n + s < suc (length l) → length (take n (drop s l)) ≡ n
-part-length l n s h = length-take-le n (drop s l) (simp length-drop (omega arith))
-
 module _ (bytes : List ℕ) (h : length bytes ≡ 248) where
   l17 : length (take 17 bytes) ≡ 17
   l17 = length-take-le 17 bytes (omega arith)
 
   l18 : length (take 18 (drop 25 bytes)) ≡ 18
-  l18 = part-length bytes 18 25 (omega arith)
+  l18 = run-length bytes 25 18 (omega arith)
 
   pub record-length : length (recordOf bytes) ≡ 248
   record-length =
@@ -153,48 +154,31 @@ module _ (bytes : List ℕ) (h : length bytes ≡ 248) where
       ∙ rw (station, time, record-current, record-next, clean-rule (take 4 (drop 17 bytes)), clean-rule (take 4 (drop 21 bytes)), current, next)
       (sym (six-checks bytes h))
 
+-- with 248 bytes the rules decide
+pub rules-decide : (bytes : List ℕ) → length bytes ≡ 248 → recordRefusal bytes ≡ broken items bytes
+unfolding recordRefusal
+rules-decide bytes n = simp (eq-eqb (length bytes) 248 n)
+
+-- the record breaks the rules that the bytes break
+pub record-rules : (bytes : List ℕ) → length bytes ≡ 248 → broken items (recordOf bytes) ≡ broken items bytes
+record-rules bytes n = sym (rules-decide (recordOf bytes) (record-length bytes n)) ∙ record-refusal bytes n ∙ rules-decide bytes n
+
 -- ---- its entries are bytes
 
-abbrev pub Bytes : List ℕ → Type 0
-Bytes l = (i : ℕ) → getD l i 0 < 256
+module _ (bytes : List ℕ) (f : Bytes bytes) where
+  mode-bytes : (at : ℕ) → Bytes (pictureClean (take 4 (drop at bytes)))
+  mode-bytes at =
+      let w : List ℕ = take 4 (drop at bytes) in
+      clean-bytes w (entry-below 256 w (lit< tt) (take-below 256 4 (drop at bytes) (drop-below 256 at bytes f)) 0)
 
-pub append-bytes : (x y : List ℕ) → Bytes x → Bytes y → Bytes (x ++ y)
-append-bytes [] y f g i = g i
-append-bytes (a ∷ x) y f g zero = f 0
-append-bytes (a ∷ x) y f g (suc i) = append-bytes x y (λ j. f (suc j)) g i
-
-pub take-bytes : (n : ℕ) (l : List ℕ) → Bytes l → Bytes (take n l)
-take-bytes zero l f i = omega arith
-take-bytes (suc n) [] f i = omega arith
-take-bytes (suc n) (a ∷ l) f zero = f 0
-take-bytes (suc n) (a ∷ l) f (suc i) = take-bytes n l (λ j. f (suc j)) i
-
-pub drop-bytes : (n : ℕ) (l : List ℕ) → Bytes l → Bytes (drop n l)
-drop-bytes n l f i = rw (getD-drop n l i 0) (f (n + i))
-
-pub zero-bytes : (n : ℕ) → Bytes (replicate n 0)
-zero-bytes zero i = omega arith
-zero-bytes (suc n) zero = omega arith
-zero-bytes (suc n) (suc i) = zero-bytes n i
-
-module _ (a p q b z d : List ℕ) (fa : Bytes a) (fp : Bytes p) (fq : Bytes q) (fb : Bytes b) (fz : Bytes z) (fd : Bytes d) where
-  runs-bytes : Bytes (runs a p q b z d)
-  runs-bytes i =
-      append-bytes a (p ++ (q ++ (b ++ (z ++ d)))) fa
-      (append-bytes p (q ++ (b ++ (z ++ d))) fp (append-bytes q (b ++ (z ++ d)) fq (append-bytes b (z ++ d) fb (append-bytes z d fz fd)))) i
-
-pub record-bytes : (bytes : List ℕ) → Bytes bytes → Bytes (recordOf bytes)
-record-bytes bytes f i =
-    let current : List ℕ = take 4 (drop 17 bytes) in
-    let next : List ℕ = take 4 (drop 21 bytes) in
-    rw (record-runs bytes)
-    (runs-bytes (take 17 bytes) (pictureClean current) (pictureClean next) (take 18 (drop 25 bytes)) (replicate 64 0) (drop 107 bytes)
-    (take-bytes 17 bytes f)
-    (clean-bytes current (take-bytes 4 (drop 17 bytes) (drop-bytes 17 bytes f) 0))
-    (clean-bytes next (take-bytes 4 (drop 21 bytes) (drop-bytes 21 bytes f) 0))
-    (take-bytes 18 (drop 25 bytes) (drop-bytes 25 bytes f))
-    (zero-bytes 64)
-    (drop-bytes 107 bytes f) i)
+  pub record-bytes : Bytes (recordOf bytes)
+  record-bytes =
+      rw (record-runs bytes)
+      (append-below 256 (take 17 bytes) _ (take-below 256 17 bytes f)
+      (append-below 256 (pictureClean (take 4 (drop 17 bytes))) _ (mode-bytes 17)
+      (append-below 256 (pictureClean (take 4 (drop 21 bytes))) _ (mode-bytes 21)
+      (append-below 256 (take 18 (drop 25 bytes)) _ (take-below 256 18 (drop 25 bytes) (drop-below 256 25 bytes f))
+      (append-below 256 (replicate 64 0) (drop 107 bytes) (replicate-below 256 64 0 (lit< tt)) (drop-below 256 107 bytes f))))))
 
 -- ---- how it is written: the bytes, and over them the two picture modes and the zeros
 

@@ -7,7 +7,7 @@ use mathlib.Core.List.{List, [], _∷_, _++_, append-assoc}
 use mathlib.Core.Option.{Option, none, some, Option·some-ne-none, Option·some-injective}
 use Prim.Native.Nat.{ℕ, _+_, _-_, _≤_}
 use native.Mathlib.Omega.{arith}
-use lib.Dec.{T, eqb, leb, leb→le}
+use lib.Dec.{T, eqb, leb, leb→le, lit<}
 use lib.ListN.{length, take, drop, replicate, length-drop, take-append-drop}
 use lib.Seq.{length-take-le, drop-drop}
 use borrow.Author.Tests.{leb-true, eqb-true, eq-eqb, ne-eqb}
@@ -17,20 +17,22 @@ use Rattle.refusal.specs.Number.{refusalPlain}
 use Rattle.refusal.specs.declared.Reason.{Reason}
 use Rattle.refusal.specs.declared.Reason.the-variants.{Picture, Room}
 use Rattle.refusal.specs.declared.Refusal.{Refusal}
-use Rattle.refusal.proofs.Laws.Chain.{require-passed}
+use Rattle.refusal.proofs.Laws.Chain.{require-passed, told}
+use Rattle.basics.specs.Below.{Bytes}
+use Rattle.basics.proofs.Laws.Below.{entry-below, append-below, take-below, drop-below}
 use Rattle.basics.proofs.Laws.Test.{both-left, both-right}
-use Rattle.record.specs.Rules.{pictureRule, pictureClean}
-use Rattle.record.specs.Items.{Row, items, part, recordOf, broken}
-use Rattle.record.specs.declared.ItemPlace.{ItemPlace}
-use Rattle.record.specs.Item.{rowOf, refusedIn, itemRefusal, placeIn, placeOf, put, cleanIn, cleanOf, partIn, itemPart, putIn, putItem}
+use Rattle.rules.specs.Rules.{pictureRule, pictureClean}
+use Rattle.record.specs.Record.{recordOf, broken}
+use Rattle.items.specs.Items.{Row, items, part}
+use Rattle.items.specs.declared.ItemPlace.{ItemPlace}
+use Rattle.items.specs.Item.{rowOf, refusedIn, itemRefusal, placeIn, placeOf, put, cleanIn, cleanOf, partIn, itemPart, putIn, putItem}
 use Rattle.record.specs.Stored.{itemLent, fitsIn, itemFits, putLeaves, storeRefusal, storeLeaves}
-use Rattle.record.specs.Checked.{checkedOf}
-use Rattle.record.specs.declared.Checked.{Checked}
-use Rattle.record.specs.declared.Checked.the-variants.{Passed, Refused}
+use Rattle.refusal.specs.Checked.{checkedOf}
+use Rattle.refusal.specs.declared.Checked.{Checked}
+use Rattle.refusal.specs.declared.Checked.the-variants.{Passed, Refused}
 use Rattle.record.proofs.Laws.Put.{put-length, put-before, put-there, put-behind, put-back, before, behind}
-use Rattle.record.proofs.Laws.Clean.{clean-length, clean-bytes, clean-again, clean-rule}
-use Rattle.record.proofs.Laws.Record.{Bytes, append-bytes, take-bytes, drop-bytes, runs, record-runs, record-current, record-next, record-reserved}
-use Rattle.record.proofs.Laws.Checks.{told}
+use Rattle.rules.proofs.Laws.Clean.{clean-length, clean-bytes, clean-again, clean-rule}
+use Rattle.record.proofs.Laws.Record.{runs, record-runs, record-current, record-next, record-reserved}
 
 -- ---- what is so of each row of a table
 
@@ -469,13 +471,14 @@ leaves-put n new old l h =
 
 -- bytes stored among bytes
 mode-bytes : (i : Row) (t : Bool) → Sits i → isMode (i .number) ≡ t → (b : List ℕ) → Bytes b → Bytes (i .clean b)
-mode-bytes i true s m b f k = rw (s .mode m .1 b) (clean-bytes b (f 0) k)
-mode-bytes i false s m b f k = rw (s .plain m b) (f k)
+mode-bytes i true s m b f = rw (s .mode m .1 b) (clean-bytes b (entry-below 256 b (lit< tt) f 0))
+mode-bytes i false s m b f = rw (s .plain m b) f
 
 put-bytes : (old new : List ℕ) (at : ℕ) → Bytes old → Bytes new → Bytes (put old at new)
 unfolding put
-put-bytes old new at f g k =
-    append-bytes (take at old ++ new) (drop (at + length new) old) (append-bytes (take at old) new (take-bytes at old f) g) (drop-bytes (at + length new) old f) k
+put-bytes old new at f g =
+    append-below 256 (take at old ++ new) (drop (at + length new) old) (append-below 256 (take at old) new (take-below 256 at old f) g)
+    (drop-below 256 (at + length new) old f)
 
 pub store-bytes : (n : ℕ) (bytes r : List ℕ) → Bytes bytes → Bytes r → Bytes (putItem n (cleanOf n bytes) r)
 unfolding putItem putIn cleanOf cleanIn

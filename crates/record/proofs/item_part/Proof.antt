@@ -1,7 +1,7 @@
 -- `record::item_part` meets its contract: the part from the item's place on is its bytes.
 -- Assumes nothing.
 use borrow.Author.Tests.{eq-eqb, ne-eqb}
-use Rattle.record.specs.Item.{partIn, itemPart}
+use Rattle.items.specs.Item.{partIn, itemPart}
 use Rattle.record.specs.Stored.{itemLent}
 use Rattle.record.proofs.Laws.Stored.{place-inside, no-place, lent-part}
 use borrow.Author.Needs.{needs}

@@ -4,7 +4,7 @@ use native.Mathlib.Omega.{arith}
 use lib.ListN.{drop, length-drop}
 use lib.Seq.{take-all}
 use borrow.Author.Tests.{eq-eqb, ne-eqb}
-use Rattle.record.specs.Items.{privatePart}
+use Rattle.record.specs.Record.{privatePart}
 use borrow.Author.Needs.{needs}
 use Rattle.record.proofs.private_part.Statement.{statement}
 use Rattle.record.proofs.private_part.Tie as tie

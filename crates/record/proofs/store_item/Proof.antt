@@ -2,7 +2,8 @@
 -- bytes are stored as.
 -- Assumes nothing.
 use mathlib.Core.Path.{sym, ap, _∙_}
-use Rattle.record.specs.declared.Checked.the-variants.{Refused}
+use Rattle.refusal.specs.declared.Checked.the-variants.{Refused}
+use Rattle.rules.proofs.Laws.Rules.{long-clean}
 use Rattle.record.proofs.Laws.Stored.{mode-stored, plain-stored, store-refused, accepted, store-room, store-done}
 use borrow.Author.Needs.{needs}
 use Rattle.record.proofs.store_item.Statement.{statement}
@@ -22,14 +23,6 @@ returns-2 c =
     let A = store-room (a .number) (a .bytes .now) (a .out .now) (k .item-refusal .result) (k .item-refusal .ensures) (t .enum-told .given .1) (c .before .if1 .taken) in
     (ap Refused (c .plain .ensures) ∙ A .0, A .1)
 
-picture-clean-requires : tie.Need-picture-clean-requires
-picture-clean-requires c κs =
-    let t = c .before .before .before in
-    let k = t .before .before in
-    let a = k .before .before .before .args in
-    let A = accepted (a .number) (a .bytes .now) (a .out .now) (k .item-refusal .result) (k .item-refusal .ensures) (t .enum-told .given .1) in
-    mode-stored (a .number) (a .bytes .now) A (sym (c .before .is-picture .ensures) ∙ c .if2 .taken) .0
-
 returns-3 : tie.Need-returns-3
 returns-3 c =
     let p = c .before .before in
@@ -39,9 +32,9 @@ returns-3 c =
     let k = t .before .before in
     let a = k .before .before .before .args in
     let A = accepted (a .number) (a .bytes .now) (a .out .now) (k .item-refusal .result) (k .item-refusal .ensures) (t .enum-told .given .1) in
-    let M = mode-stored (a .number) (a .bytes .now) A (sym (i .is-picture .ensures) ∙ m .before .if2 .taken) .1 in
+    let M = mode-stored (a .number) (a .bytes .now) A (sym (i .is-picture .ensures) ∙ m .before .if2 .taken) in
     store-done (a .number) (a .bytes .now) (a .out .now) (k .item-refusal .result) (k .item-refusal .ensures) (t .enum-told .given .1)
-    (m .picture-clean .result) _ (i .before .if1 .left) (m .picture-clean .ensures ∙ M) (p .put-item .ensures .1)
+    (m .picture-clean .result) _ (i .before .if1 .left) (m .picture-clean .ensures ∙ long-clean (a .bytes .now) (M .0) ∙ M .1) (p .put-item .ensures .1)
 
 returns-4 : tie.Need-returns-4
 returns-4 c =
@@ -65,7 +58,7 @@ store-item-spec =
     (λ c κs. search needs)
     returns-2
     (λ c κs. search needs)
-    picture-clean-requires
+    (λ c κs. search needs)
     (λ c. search needs)
     (λ c κs. search needs)
     (λ c. search needs)

@@ -3,6 +3,8 @@
 use mathlib.Core.Path.{_≡_, sym, _∙_}
 use native.Mathlib.Omega.{arith}
 use lib.ListN.{length}
+use Rattle.basics.proofs.Laws.Parts.{run-length}
+use Rattle.rules.proofs.Laws.Rules.{long-clean}
 use Rattle.record.proofs.Laws.Record.{unwritten-bytes, unwritten-room, record-fits, record-written}
 use borrow.Author.Needs.{needs}
 use Rattle.record.proofs.write_record.Statement.{statement}
@@ -34,8 +36,8 @@ returns-3 c =
       sym (record-fits (a .bytes .now) (a .out .now) h o),
       record-written (a .bytes .now) (a .out .now) h o _ _ _ _
           (w .copy .ensures)
-          (m .copy2 .ensures ∙ p .picture-clean .ensures)
-          (n .copy3 .ensures ∙ q .picture-clean2 .ensures)
+          (m .copy2 .ensures ∙ p .picture-clean .ensures ∙ long-clean _ (run-length (a .bytes .now) 17 4 (omega arith)))
+          (n .copy3 .ensures ∙ q .picture-clean2 .ensures ∙ long-clean _ (run-length (a .bytes .now) 21 4 (omega arith)))
           (z .copy4 .ensures),
     )
 

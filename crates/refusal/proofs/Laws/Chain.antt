@@ -1,10 +1,16 @@
--- A chain of checks that refuses nothing has passed each of them.
+-- Chains of checks: one that refuses nothing has passed each of them, and one that goes on by `then` is the chain of the definitions.
 -- Assumes nothing.
-use mathlib.Core.Path.{_≡_, refl}
-use mathlib.Core.Bool.{Bool, true, false}
+use mathlib.Core.Path.{_≡_, refl, sym, ap, _∙_}
+use mathlib.Core.Bool.{Bool, true, false, not}
 use mathlib.Core.Option.{Option, none, some, Option·some-ne-none}
-use Rattle.refusal.specs.Chain.{require, next}
+use borrow.Author.Tests.{not-true, not-false}
+use Rattle.refusal.specs.Chain.{require, passed, next}
+use Rattle.refusal.specs.Checked.{checkedOf, refusalIn}
+use Rattle.refusal.specs.declared.Checked.{Checked}
+use Rattle.refusal.specs.declared.Checked.the-variants.{Passed, Refused}
 use Rattle.refusal.specs.declared.Refusal.{Refusal}
+
+-- ---- a chain that refuses nothing
 
 pub require-passed : (t : Bool) (why : Refusal) (rest : Option Refusal) → require t why rest ≡ none → (t ≡ true) × (rest ≡ none)
 require-passed true why rest e = (refl, e)
@@ -13,3 +19,55 @@ require-passed false why rest e = absurd (Option·some-ne-none why e)
 pub next-passed : (first rest : Option Refusal) → next first rest ≡ none → (first ≡ none) × (rest ≡ none)
 next-passed none rest e = (refl, e)
 next-passed (some why) rest e = absurd (Option·some-ne-none why e)
+
+-- ---- an answer tells its refusal
+
+pub refusal-in : (o : Option Refusal) → refusalIn (checkedOf o) ≡ o
+refusal-in none = refl
+refusal-in (some why) = refl
+
+-- the refusal of an answer that turned out to be b
+pub told : (o : Option Refusal) (a b : Checked) → a ≡ checkedOf o → a ≡ b → o ≡ refusalIn b
+told o a b e d = sym (refusal-in o) ∙ ap refusalIn (sym e ∙ d)
+
+-- ---- a test that a call answered
+
+pub passes : {r s : Bool} → r ≡ s → not r ≡ false → s ≡ true
+passes {r} e h = sym e ∙ not-false r h
+
+pub fails : {r s : Bool} → r ≡ s → not r ≡ true → s ≡ false
+fails {r} e h = sym e ∙ not-true r h
+
+-- ---- a chain that goes on by `then`
+
+-- the checks up to an answer are this chain: what is asked behind the answer is asked behind them
+pub record Chained (answer : Checked) (chain : Option Refusal → Option Refusal) : Type 0 where
+  pub behind : (rest : Option Refusal) → next (refusalIn answer) rest ≡ chain rest
+
+-- no check yet
+pub chained-none : Chained Passed (λ rest. rest)
+chained-none = record { behind = λ rest. refl }
+
+next-require : (first : Option Refusal) (ok : Bool) (why : Refusal) (rest : Option Refusal)
+    → next (next first (require ok why passed)) rest ≡ next first (require ok why rest)
+next-require none true why rest = refl
+next-require none false why rest = refl
+next-require (some first) ok why rest = refl
+
+-- one check more, whose test is what a call said
+pub chained-more : {earlier answer : Checked} {ok test : Bool} {chain : Option Refusal → Option Refusal} (why : Refusal)
+    → Chained earlier chain → answer ≡ checkedOf (next (refusalIn earlier) (require ok why passed)) → ok ≡ test
+    → Chained answer (λ rest. chain (require test why rest))
+chained-more {earlier} {answer} {ok} {test} {chain} why c e p = record {
+  behind = λ rest.
+      ap (λ (o : Option Refusal). next o rest) (ap refusalIn e ∙ refusal-in (next (refusalIn earlier) (require ok why passed)))
+      ∙ next-require (refusalIn earlier) ok why rest ∙ c .behind (require ok why rest) ∙ ap (λ (b : Bool). chain (require b why rest)) p;
+}
+
+answer-all : (answer : Checked) → answer ≡ checkedOf (next (refusalIn answer) passed)
+answer-all Passed = refl
+answer-all (Refused why) = refl
+
+-- all of them: the answer is that of the chain
+pub chained-all : {answer : Checked} {chain : Option Refusal → Option Refusal} → Chained answer chain → answer ≡ checkedOf (chain passed)
+chained-all {answer} c = answer-all answer ∙ ap checkedOf (c .behind passed)

@@ -14,9 +14,11 @@ use Rattle.gf256.proofs.Laws.Sum.{⊕-self, ⊕-zero-l}
 use Rattle.gf256.proofs.Laws.Product.{⊗-zero-r}
 use Rattle.basics.proofs.Laws.Test.{lt-or-le}
 use Rattle.rs.specs.Polynomial.{valueAt, _⊞_, zeros, _⊠_}
-use Rattle.rs.specs.Codeword.{G, parityOf, leftOf, Bytes, Codeword}
+use Rattle.rs.specs.Codeword.{G, parityOf, leftOf, Codeword}
+use Rattle.basics.specs.Below.{Bytes}
 use Rattle.rs.specs.Decode.{changes}
-use Rattle.rs.proofs.Laws.Polynomial.{append-bytes, take-bytes, ⊞-self, ⊞-zero-eq, value-⊞, value-append, value-above, value-moved, length-⊠, value-⊠}
+use Rattle.rs.proofs.Laws.Polynomial.{⊞-self, ⊞-zero-eq, value-⊞, value-append, value-above, value-moved, length-⊠, value-⊠}
+use Rattle.basics.proofs.Laws.Below.{append-below, take-below}
 use Rattle.rs.proofs.Laws.Division.{divisor-length, parity-length, parity-bytes, quotient-exists, divisor-root}
 use Rattle.rs.proofs.Laws.Distance.{changes-via, changes-after, close-equal}
 
@@ -46,7 +48,7 @@ parity-vanishes d x j h =
 pub codeword-vanishes : (w : List ℕ) → Codeword w → (j : ℕ) → j < 6 → valueAt (pow 2 j) w ≡ 0
 codeword-vanishes w c j h =
     ap (valueAt (pow 2 j)) (sym (take-append-drop 248 w) ∙ ap (_++_ (take 248 w)) (c .parity))
-    ∙ parity-vanishes (take 248 w) (take-bytes 248 w (c .bytes)) j h
+    ∙ parity-vanishes (take 248 w) (take-below 256 248 w (c .bytes)) j h
 
 -- ---- what the division leaves of a block
 
@@ -68,7 +70,7 @@ module _ (l : List ℕ) (n : length l ≡ 254) where
   -- it has the values of the block
   pub left-value : Bytes l → (j : ℕ) → j < 6 → valueAt (pow 2 j) (leftOf l) ≡ valueAt (pow 2 j) l
   left-value b j h =
-      ap (valueAt (pow 2 j)) (left-long l n) ∙ remainder-value (take 248 l) (drop 248 l) last-six (take-bytes 248 l b) j h
+      ap (valueAt (pow 2 j)) (left-long l n) ∙ remainder-value (take 248 l) (drop 248 l) last-six (take-below 256 248 l b) j h
       ∙ ap (valueAt (pow 2 j)) (take-append-drop 248 l)
 
   -- it is 0 exactly where the block is a codeword
@@ -93,8 +95,8 @@ vanishing-codeword w e b s =
     let n : length d ≡ 248 = length-take-le 248 w (omega arith) in
     let long : length (d ++ parityOf d) ≡ 254 = omega (arith, length-append d (parityOf d), parity-length d) in
     let one : w ≡ d ++ parityOf d =
-    close-equal 6 w (d ++ parityOf d) (e ∙ sym long) (omega arith) b (append-bytes d (parityOf d) (take-bytes 248 w b) (parity-bytes d))
-    (omega (arith, changes-after 248 w (parityOf d), length-drop 248 w)) (λ j h. s j h ∙ sym (parity-vanishes d (take-bytes 248 w b) j h)) in
+    close-equal 6 w (d ++ parityOf d) (e ∙ sym long) (omega arith) b (append-below 256 d (parityOf d) (take-below 256 248 w b) (parity-bytes d))
+    (omega (arith, changes-after 248 w (parityOf d), length-drop 248 w)) (λ j h. s j h ∙ sym (parity-vanishes d (take-below 256 248 w b) j h)) in
     record { long = e; bytes = b; parity = ap (drop 248) one ∙ drop-at d (parityOf d) 248 n }
 
 -- two codewords that differ in at most six places are one

@@ -10,39 +10,31 @@ use Prim.Native.Nat.{ℕ, zero, suc, _+_, _≤_, _<_}
 use native.Mathlib.Nat.{suc-inj}
 use native.Mathlib.Omega.{arith}
 use lib.Dec.{eqb}
-use borrow.Author.Tests.{eq-eqb, eqb-true, lt-ltb, ltb-true}
-use lib.ListN.{length, take, drop}
+use borrow.Author.Tests.{eq-eqb, eqb-true}
+use lib.ListN.{length, drop}
 use Rattle.basics.specs.Each.{all, same}
 use Rattle.basics.proofs.Laws.Test.{both-true, never, lt-or-le}
 use Rattle.basics.proofs.Laws.Each.{same-equal, same-self}
-use Rattle.rs.specs.Codeword.{Bytes, Codeword, parityOf}
+use Rattle.rs.specs.Codeword.{Codeword}
+use Rattle.basics.specs.Below.{Bytes}
+use Rattle.basics.proofs.Laws.Below.{all-below, below-all}
 use Rattle.rs.specs.Decode.{changes, isByte, isCodeword, fronted, near, firstCodeword, given, decode, repairable, repaired}
 use Rattle.rs.proofs.Laws.Distance.{place, differ-le, differ-same, changes-zero, changes-self, changes-le-length}
 use Rattle.rs.proofs.Laws.Codeword.{codeword-unique}
 
 -- ---- the test
 
-all-bytes : (l : List ℕ) → all isByte l ≡ true → Bytes l
-unfolding all
-all-bytes [] t = tt
-all-bytes (a ∷ l) t = let both = both-true (isByte a) (all isByte l) t in (ltb-true a 256 (both .0), all-bytes l (both .1))
-
-bytes-all : (l : List ℕ) → Bytes l → all isByte l ≡ true
-unfolding all
-bytes-all [] b = refl
-bytes-all (a ∷ l) b = ap₂ _&&_ (lt-ltb a 256 (b .0)) (bytes-all l (b .1))
-
 pub true-codeword : (w : List ℕ) → isCodeword w ≡ true → Codeword w
 unfolding isCodeword
 true-codeword w t =
     let parts = both-true (eqb (length w) 254 && all isByte w) _ t in
     let front = both-true (eqb (length w) 254) (all isByte w) (parts .0) in
-    record { long = eqb-true (length w) 254 (front .0); bytes = all-bytes w (front .1); parity = same-equal _ _ (parts .1) }
+    record { long = eqb-true (length w) 254 (front .0); bytes = all-below 256 w (front .1); parity = same-equal _ _ (parts .1) }
 
 pub codeword-true : (w : List ℕ) → Codeword w → isCodeword w ≡ true
 unfolding isCodeword
 codeword-true w c =
-    ap₂ _&&_ (ap₂ _&&_ (eq-eqb (length w) 254 (c .long)) (bytes-all w (c .bytes)))
+    ap₂ _&&_ (ap₂ _&&_ (eq-eqb (length w) 254 (c .long)) (below-all 256 w (c .bytes)))
     (ap (same (drop 248 w)) (sym (c .parity)) ∙ same-self (drop 248 w))
 
 -- ---- the lists near a list

@@ -16,7 +16,7 @@ use Rattle.gf256.proofs.Laws.Sum.{⊕-self, ⊕-zero-l, ⊕-pos}
 use Rattle.gf256.proofs.Laws.Product.{⊗-zero-l, pow-lt, pow-swap, pow-inj}
 use Rattle.gf256.proofs.Laws.PowerSum.{vanish}
 use Rattle.rs.specs.Polynomial.{valueAt, _⊞_}
-use Rattle.rs.specs.Codeword.{Bytes}
+use Rattle.basics.specs.Below.{Bytes}
 use Rattle.rs.specs.Decode.{changes}
 use Rattle.rs.proofs.Laws.Polynomial.{length-⊞, ⊞-bytes, value-⊞}
 

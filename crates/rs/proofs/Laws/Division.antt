@@ -12,8 +12,10 @@ use Rattle.gf256.specs.Field.{_⊕_, _⊗_, byBits, double, pow}
 use Rattle.gf256.proofs.Laws.Sum.{⊕-zero-r, ⊕-lt}
 use Rattle.gf256.proofs.Laws.Product.{⊗-one-r}
 use Rattle.rs.specs.Polynomial.{valueAt, _⊞_, scale, zeros, _⊠_}
-use Rattle.rs.specs.Codeword.{G, divisorBytes, next, remainder, parityOf, Bytes}
-use Rattle.rs.proofs.Laws.Polynomial.{length-⊞, length-scale, ⊞-bytes, scale-bytes, append-bytes, zeros-bytes, ⊞-comm, ⊞-assoc, ⊞-cancel, ⊞-self, ⊞-zeros-l, ⊞-append}
+use Rattle.rs.specs.Codeword.{G, divisorBytes, next, remainder, parityOf}
+use Rattle.basics.specs.Below.{Bytes}
+use Rattle.rs.proofs.Laws.Polynomial.{length-⊞, length-scale, ⊞-bytes, scale-bytes, ⊞-comm, ⊞-assoc, ⊞-cancel, ⊞-self, ⊞-zeros-l, ⊞-append}
+use Rattle.basics.proofs.Laws.Below.{append-below, replicate-below}
 
 -- ---- lengths and bytes
 
@@ -31,7 +33,7 @@ remainder-length g p (d ∷ ds) e = remainder-length g (next g p d) ds (next-len
 pub next-bytes : (g p : List ℕ) (d : ℕ) → Bytes p → Bytes (next g p d)
 unfolding next
 next-bytes g [] d x = tt
-next-bytes g (p ∷ ps) d x = ⊞-bytes _ _ (append-bytes ps (0 ∷ []) (x .1) (zeros-bytes 1)) (scale-bytes _ g)
+next-bytes g (p ∷ ps) d x = ⊞-bytes _ _ (append-below 256 ps (0 ∷ []) (x .1) (replicate-below 256 1 0 (lit< tt))) (scale-bytes _ g)
 
 pub remainder-bytes : (g p ds : List ℕ) → Bytes p → Bytes (remainder g p ds)
 unfolding remainder
@@ -48,7 +50,7 @@ parity-length d = remainder-length divisorBytes (zeros 6) d (sym divisor-length)
 
 pub parity-bytes : (d : List ℕ) → Bytes (parityOf d)
 unfolding parityOf
-parity-bytes d = remainder-bytes divisorBytes (zeros 6) d (zeros-bytes 6)
+parity-bytes d = remainder-bytes divisorBytes (zeros 6) d (replicate-below 256 6 0 (lit< tt))
 
 -- ---- one more coefficient
 
@@ -121,7 +123,7 @@ quotient-start g ds h x =
     let l : n + length ds ≡ length (ds ++ zeros n) = simp (length-append, length-replicate) (omega arith) in
     sym (⊞-zeros-l (ds ++ zeros n))
     ∙ ap (λ (z : List ℕ). z ⊞ (ds ++ zeros n)) (sym (replicate-append-replicate n (length ds) 0 ∙ ap (λ (k : ℕ). zeros k) l))
-    ∙ quotient-law g (zeros n) ds h (length-replicate n 0) (zeros-bytes n) x
+    ∙ quotient-law g (zeros n) ds h (length-replicate n 0) (replicate-below 256 n 0 (lit< tt)) x
 
 -- ---- G
 

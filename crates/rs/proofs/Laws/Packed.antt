@@ -17,9 +17,11 @@ use Rattle.basics.proofs.Laws.Test.{lt-or-le}
 use Rattle.gf256.proofs.Laws.Sum.{⊕-assoc, ⊕-comm, ⊕-self, ⊕-zero-r, ⊕-lt}
 use Rattle.gf256.proofs.Laws.Product.{⊗-assoc, ⊗-⊕-l, ⊗-zero-l, ⊗-one-l, two-double}
 use Rattle.rs.specs.Polynomial.{_⊞_, scale}
-use Rattle.rs.specs.Codeword.{divisorBytes, next, remainder, parityOf, leftOf, Bytes}
+use Rattle.rs.specs.Codeword.{divisorBytes, next, remainder, parityOf, leftOf}
+use Rattle.basics.specs.Below.{Bytes}
 use Rattle.rs.specs.Packed.{pack, unpack, turn, Multiples, Extended}
-use Rattle.rs.proofs.Laws.Polynomial.{bytes-at, length-⊞, length-scale, ⊞-bytes, scale-bytes, append-bytes, drop-bytes}
+use Rattle.rs.proofs.Laws.Polynomial.{length-⊞, length-scale, ⊞-bytes, scale-bytes}
+use Rattle.basics.proofs.Laws.Below.{at-below, append-below, drop-below}
 use Rattle.rs.proofs.Laws.Division.{parity-length, parity-bytes, parity-step}
 use Rattle.rs.proofs.Laws.Codeword.{left-long, last-six, as-long}
 
@@ -97,7 +99,7 @@ turn-next g (p ∷ ps) d e z x k =
     ap₂ (λ (u v : ℕ). u ⊕ pack (scale v g))
     (ap (λ (n : ℕ). n / 256) s ∙ digit-div _ _ h ∙ sym (pack-snoc ps)) (ap (λ (n : ℕ). n % 256) s ∙ digit-mod _ _ h)
     ∙ sym (pack-⊞ (ps ++ (0 ∷ [])) (scale (p ⊕ d) g) (length-append ps (0 ∷ []) ∙ add-one _ ∙ e ∙ sym (length-scale _ g))
-    (append-bytes ps (0 ∷ []) (x .1) (lit< tt, tt)) (scale-bytes _ g))
+    (append-below 256 ps (0 ∷ []) (x .1) (lit< tt, tt)) (scale-bytes _ g))
 
 -- ---- multiples add
 
@@ -150,14 +152,14 @@ pub remainder-sum : (l : List ℕ) → length l ≡ 254 → ((i : ℕ) → getD 
 remainder-sum l e h =
     let m : List ℕ = drop 248 l in
     let p : List ℕ = parityOf (take 248 l) in
-    let b : Bytes m = bytes-at m (λ i. rw getD-drop (h (248 + i))) in
+    let b : Bytes m = at-below 256 m (λ i. rw getD-drop (h (248 + i))) in
     ap (λ (k : List ℕ). pack p ⊕ pack k) (simp getD-drop at (entries-all 6 m (last-six l e)))
     ∙ sym (pack-⊞ p m (as-long l e) (parity-bytes (take 248 l)) b)
 
 -- and its six bytes are what the division leaves
 pub left-unpacked : (l : List ℕ) → length l ≡ 254 → Bytes l → unpack 6 (pack (parityOf (take 248 l) ⊞ drop 248 l)) ≡ leftOf l
 left-unpacked l e b =
-    unpack-pack 6 _ (length-⊞ _ _ (as-long l e) ∙ last-six l e) (⊞-bytes _ _ (parity-bytes (take 248 l)) (drop-bytes 248 l b))
+    unpack-pack 6 _ (length-⊞ _ _ (as-long l e) ∙ last-six l e) (⊞-bytes _ _ (parity-bytes (take 248 l)) (drop-below 256 248 l b))
     ∙ sym (left-long l e)
 
 -- ---- twice a byte

@@ -7,20 +7,15 @@ use Prim.Native.Nat.{ℕ, zero, suc, pred, _+_, _<_}
 use native.Mathlib.Nat.{suc-inj, suc-add}
 use native.Mathlib.Omega.{arith}
 use lib.Dec.{lit<}
-use lib.ListN.{length, getD, take, length-append, length-replicate, drop}
+use lib.ListN.{length, getD, length-append, length-replicate}
 use Rattle.gf256.specs.Field.{_⊕_, _⊗_, pow}
 use Rattle.gf256.proofs.Laws.Sum.{⊕-assoc, ⊕-comm, ⊕-self, ⊕-zero-l, ⊕-zero-r, ⊕-four, ⊕-lt}
 use Rattle.gf256.proofs.Laws.Product.{⊗-lt, ⊗-assoc, ⊗-⊕-l, ⊗-⊕-r, ⊗-zero-l, ⊗-zero-r, ⊗-one-r, pow-add}
 use Rattle.gf256.proofs.Laws.Ring.{ring}
 use Rattle.rs.specs.Polynomial.{valueAt, _⊞_, scale, zeros, _⊠_}
-use Rattle.rs.specs.Codeword.{Bytes}
+use Rattle.basics.specs.Below.{Bytes}
 
 -- ---- lengths and bytes
-
--- a list whose every entry is below 256
-pub bytes-at : (l : List ℕ) → ((i : ℕ) → getD l i 0 < 256) → Bytes l
-bytes-at [] h = tt
-bytes-at (a ∷ l) h = (h 0, bytes-at l (λ i. h (suc i)))
 
 pub length-⊞ : (l m : List ℕ) → length l ≡ length m → length (l ⊞ m) ≡ length m
 unfolding _⊞_
@@ -43,24 +38,6 @@ pub scale-bytes : (f : ℕ) (l : List ℕ) → Bytes (scale f l)
 unfolding scale
 scale-bytes f [] = tt
 scale-bytes f (a ∷ l) = (⊗-lt f a, scale-bytes f l)
-
-pub append-bytes : (l m : List ℕ) → Bytes l → Bytes m → Bytes (l ++ m)
-append-bytes [] m x y = y
-append-bytes (a ∷ l) m x y = (x .0, append-bytes l m (x .1) y)
-
-pub zeros-bytes : (n : ℕ) → Bytes (zeros n)
-zeros-bytes zero = tt
-zeros-bytes (suc n) = (lit< tt, zeros-bytes n)
-
-pub take-bytes : (n : ℕ) (l : List ℕ) → Bytes l → Bytes (take n l)
-take-bytes zero l x = tt
-take-bytes (suc n) [] x = tt
-take-bytes (suc n) (a ∷ l) x = (x .0, take-bytes n l (x .1))
-
-pub drop-bytes : (n : ℕ) (l : List ℕ) → Bytes l → Bytes (drop n l)
-drop-bytes zero l b = b
-drop-bytes (suc n) [] b = tt
-drop-bytes (suc n) (a ∷ l) b = drop-bytes n l (b .1)
 
 -- ---- the group of sums
 

@@ -3,7 +3,7 @@
 use borrow.Author.Needs.{needs}
 use mathlib.Core.Path.{sym, ap, _∙_}
 use Rattle.rs.specs.Packed.{unpack}
-use Rattle.rs.proofs.Laws.Polynomial.{bytes-at}
+use Rattle.basics.proofs.Laws.Below.{at-below}
 use Rattle.rs.proofs.Laws.Codeword.{left-short}
 use Rattle.rs.proofs.Laws.Packed.{left-unpacked}
 use Rattle.rs.proofs.remainder.Statement.{statement}
@@ -17,7 +17,7 @@ returns-2 c =
     let known = c .before .before .before in
     let l = known .before .args .block .now in
     c .unpack .ensures ∙ ap (unpack 6) (c .before .remainder .ensures)
-    ∙ left-unpacked l (c .before .before .if1 .left) (bytes-at l (λ i. known .shared-slice-known .given i .fits))
+    ∙ left-unpacked l (c .before .before .if1 .left) (at-below 256 l (λ i. known .shared-slice-known .given i .fits))
 
 pub remainder-spec : {M : Type 1} → statement M
 remainder-spec = tie.close (tie.spec returns (λ c κs. search needs) (λ c κs. search needs) returns-2)

@@ -15,7 +15,8 @@ use Rattle.gf256.proofs.Laws.Sum.{⊕-assoc, ⊕-zero-l}
 use Rattle.gf256.proofs.Laws.Product.{pow-swap}
 use Rattle.gf256.proofs.Laws.Ring.{ring}
 use Rattle.rs.specs.Polynomial.{valueAt, _⊞_, zeros}
-use Rattle.rs.specs.Codeword.{leftOf, Bytes, Codeword}
+use Rattle.rs.specs.Codeword.{leftOf, Codeword}
+use Rattle.basics.specs.Below.{Bytes}
 use Rattle.basics.specs.Each.{same}
 use Rattle.basics.proofs.Laws.Test.{never}
 use Rattle.basics.proofs.Laws.Each.{same-equal, same-self}

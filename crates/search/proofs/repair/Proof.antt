@@ -2,7 +2,7 @@
 -- Assumes nothing.
 use borrow.Author.Needs.{needs}
 use mathlib.Core.Path.{sym, _∙_}
-use Rattle.rs.proofs.Laws.Polynomial.{bytes-at}
+use Rattle.basics.proofs.Laws.Below.{at-below}
 use Rattle.rs.proofs.Laws.Decode.{short-answer}
 use Rattle.search.proofs.Laws.Repair.{nothing-left, something-left}
 use Rattle.search.proofs.repair.Statement.{statement}
@@ -16,7 +16,7 @@ returns-2 c =
     let left = c .before .before in
     let known = left .before .before .before in
     let l = known .before .args .block .now in
-    let A = nothing-left l _ (search needs) (bytes-at l (λ i. known .slice-known .given i .fits)) (left .remainder .ensures)
+    let A = nothing-left l _ (search needs) (at-below 256 l (λ i. known .slice-known .given i .fits)) (left .remainder .ensures)
     (sym (c .before .is-zero .ensures) ∙ c .if2 .taken) in
     (A .said, A .left)
 
@@ -25,7 +25,7 @@ mend-requires c κs =
     let left = c .before .before .before in
     let known = left .before .before .before in
     let l = known .before .args .block .now in
-    something-left l _ (search needs) (bytes-at l (λ i. known .slice-known .given i .fits)) (left .remainder .ensures)
+    something-left l _ (search needs) (at-below 256 l (λ i. known .slice-known .given i .fits)) (left .remainder .ensures)
     (sym (c .before .before .is-zero .ensures) ∙ c .before .if2 .left)
 
 pub repair-spec : {M : Type 1} → statement M

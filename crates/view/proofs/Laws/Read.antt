@@ -2,18 +2,18 @@
 -- Assumes nothing.
 use mathlib.Core.Path.{_≡_, sym, ap, _∙_}
 use mathlib.Core.List.{List}
-use mathlib.Core.Option.{Option, none, some}
+use mathlib.Core.Option.{none, some}
 use Prim.Native.Nat.{ℕ}
 use lib.ListN.{replicate}
 use Rattle.refusal.specs.declared.Refusal.{Refusal}
-use Rattle.record.specs.Items.{recordRefusal}
-use Rattle.record.specs.Checked.{checkedOf}
+use Rattle.record.specs.Record.{recordRefusal}
+use Rattle.refusal.specs.Checked.{checkedOf}
 use Rattle.view.specs.View.{viewOf}
 use Rattle.view.specs.Read.{viewBy, recordReadOf}
-use Rattle.record.specs.declared.Checked.{Checked}
-use Rattle.record.specs.declared.Checked.the-variants.{Passed, Refused}
+use Rattle.refusal.specs.declared.Checked.{Checked}
+use Rattle.refusal.specs.declared.Checked.the-variants.{Passed, Refused}
 use Rattle.view.specs.declared.RecordView.{RecordView}
-use Rattle.record.proofs.Laws.Checks.{told}
+use Rattle.refusal.proofs.Laws.Chain.{told}
 
 module _ (bytes : List ℕ) (a : Checked) (e : a ≡ checkedOf (recordRefusal bytes)) where
   pub read-passed : (v : RecordView) → a ≡ Passed → v ≡ viewOf bytes → record { checked = a; view = v } ≡ recordReadOf bytes

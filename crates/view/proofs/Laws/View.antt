@@ -12,8 +12,9 @@ use lib.Dec.{eqb, leb}
 use lib.ListN.{length, take, drop, getD, replicate}
 use borrow.Author.Tests.{eqb-true, leb-true, not-true}
 use Rattle.refusal.specs.Number.{refusalAt}
-use Rattle.record.specs.Rules.{decimal, timeByte, sameSent, timeRule, onlyBit, lowHalf, bitFor, pictureRule, pictureClean}
-use Rattle.record.specs.Items.{Row, items, part, cleaned, recordOf, broken}
+use Rattle.rules.specs.Rules.{decimal, timeByte, sameSent, timeRule, onlyBit, lowHalf, bitFor, pictureRule, pictureClean}
+use Rattle.record.specs.Record.{cleaned, recordOf, broken}
+use Rattle.items.specs.Items.{Row, items, part}
 use Rattle.view.specs.declared.TimeWord.the-variants.{Sent, Unsent}
 use Rattle.view.specs.declared.Milliseconds.the-variants.{Sent as BothSent}
 use Rattle.view.specs.declared.PictureMode.the-variants.{Used as APicture}

@@ -1,7 +1,7 @@
 -- `view::decimal_of` meets its contract: it is the definition.
 -- Assumes nothing.
 use mathlib.Core.Path.{refl}
-use Rattle.record.specs.Rules.{decimal}
+use Rattle.rules.specs.Rules.{decimal}
 use borrow.Author.Needs.{needs}
 use Rattle.view.proofs.decimal_of.Statement.{statement}
 use Rattle.view.proofs.decimal_of.Tie as tie

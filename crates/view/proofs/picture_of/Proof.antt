@@ -2,7 +2,7 @@
 -- Assumes nothing.
 use native.Mathlib.Nat.{div-one}
 use borrow.Author.Tests.{eq-eqb, ne-eqb}
-use Rattle.record.specs.Rules.{lowHalf}
+use Rattle.rules.specs.Rules.{lowHalf}
 use Rattle.view.specs.View.{pictureOf}
 use borrow.Author.Needs.{needs}
 use Rattle.view.proofs.picture_of.Statement.{statement}

@@ -8,7 +8,8 @@ use Rattle.follower.proofs.Follower.hold.Tie as tie
 returns : tie.Need-returns
 unfolding heldAfter
 returns c =
-    rw (c .count4 .ensures, c .before .wide .ensures .0, c .before .before .count3 .ensures, c .before .before .before .conflicts .ensures, c .before .before .before .before .count2 .ensures, c .before .before .before .before .before .repeats .ensures, c .before .before .before .before .before .before .count .ensures)
+    let k = c .before .before in
+    rw (c .count4 .ensures, k .count3 .ensures, k .before .conflicts .ensures, k .before .before .count2 .ensures, k .before .before .before .repeats .ensures, k .before .before .before .before .count .ensures)
 
 pub hold-spec : {M : Type 1} → statement M
 hold-spec =
@@ -19,6 +20,6 @@ hold-spec =
     (λ c κs. search needs)
     (λ c κs. search needs)
     (λ c κs. search needs)
-    (λ c κs. search needs)
+    (λ c. search needs)
     (λ c κs. search needs)
     returns)

@@ -6,7 +6,7 @@ use native.Mathlib.Omega.{arith}
 use lib.ListN.{getD}
 use mir.Syntax.{w8}
 use mir.Val.{Fits}
-use Rattle.rs.proofs.Laws.Polynomial.{bytes-at}
+use Rattle.basics.proofs.Laws.Below.{at-below}
 use Rattle.rs.proofs.Laws.Packed.{Filling, fill-none, fill-more, fill-size, fill-all}
 use Rattle.rs.proofs.division.multiples.Statement.{statement}
 use Rattle.rs.proofs.division.multiples.Tie as tie
@@ -20,7 +20,7 @@ abbrev μ-loop : tie.MeasureT-loop
 loop-holds : tie.Need-loop-holds Inv-loop μ-loop
 loop-holds c =
     let f : (i : ℕ) → Fits w8 (getD (c .args .g) i 0) = λ i. search needs in
-    fill-none _ _ (search needs) (bytes-at (c .args .g) (λ i. f i .fits)) (search needs)
+    fill-none _ _ (search needs) (at-below 256 (c .args .g) (λ i. f i .fits)) (search needs)
 
 extend-requires : tie.Need-extend-requires Inv-loop μ-loop
 extend-requires c κs =

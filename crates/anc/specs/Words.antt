@@ -1,0 +1,39 @@
+-- Runs of words: do they begin a packet, is each of ten bits, the bytes that they carry, and bytes as sound words.
+-- Assumes nothing.
+use mathlib.Core.Bool.{Bool, cond}
+use mathlib.Core.List.{List, [], _∷_, map}
+use Prim.Native.Nat.{ℕ, _%_}
+use lib.Dec.{leb, eqb}
+use lib.ListN.{length, take}
+use Rattle.basics.specs.Each.{all, same}
+use Rattle.anc.specs.Word.{wordOf}
+
+-- the three words in front of a packet
+unfoldable pub flag : List ℕ
+flag = 0x000 ∷ 0x3FF ∷ 0x3FF ∷ []
+
+-- do the words begin with them?
+unfoldable pub hasFlag : List ℕ → Bool
+hasFlag words = same (take 3 words) flag
+
+-- is no word over 1,023?
+unfoldable pub narrow : List ℕ → Bool
+narrow words = all (λ w. leb w 1023) words
+
+-- the low bytes of the words
+unfoldable pub lowBytes : List ℕ → List ℕ
+lowBytes words = map (λ w. w % 256) words
+
+-- bytes as sound words
+unfoldable pub soundWords : List ℕ → List ℕ
+soundWords bytes = map wordOf bytes
+
+-- ---- what is left in a lent buffer
+
+-- are two lists of one length?
+abbrev pub asLong : List ℕ → List ℕ → Bool
+asLong l m = eqb (length l) (length m)
+
+-- as many new entries as there were, or what was there
+unfoldable pub filledBy : List ℕ → List ℕ → List ℕ
+filledBy new old = cond (asLong new old) new old

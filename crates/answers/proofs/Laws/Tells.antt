@@ -1,0 +1,140 @@
+-- Nothing is lost on the way to C: two answers that give the same struct are the same answer.
+-- Assumes nothing.
+use mathlib.Core.Path.{_≡_, refl, ap, sym, _∙_}
+use mathlib.Core.Bool.{cond}
+use mathlib.Core.Option.{Option, none, some}
+use Prim.Native.Nat.{ℕ}
+use lib.Dec.{eqb}
+use native.Mathlib.Omega.{arith}
+use Rattle.refusal.specs.Number.{numberOf}
+use Rattle.refusal.specs.declared.Reason.{Reason}
+use Rattle.refusal.specs.declared.Refusal.{Refusal}
+use Rattle.refusal.proofs.Laws.Number.{number-inj}
+use Rattle.reading.specs.declared.Reading.{Reading}
+use Rattle.reading.specs.declared.Reading.the-variants.{Accepted, Refused}
+use Rattle.repair.specs.declared.Repaired.{Repaired}
+use Rattle.repair.specs.declared.Repaired.the-variants.{Fixed, Refused as RefusedRepair}
+use Rattle.b40.specs.declared.Unpacked.{Unpacked}
+use Rattle.b40.specs.declared.Unpacked.the-variants.{Done as HeadOf, Refused as RefusedField}
+use Rattle.refusal.specs.declared.Checked.{Checked}
+use Rattle.refusal.specs.declared.Checked.the-variants.{Passed, Refused as RefusedCheck}
+use Rattle.refusal.specs.Checked.{checkedOf, refusalIn}
+use Rattle.desk.specs.declared.Desk.{Desk}
+use Rattle.desk.specs.declared.Turn.{Turn}
+use Rattle.sequence.specs.declared.Kind.{Kind}
+use Rattle.sequence.specs.declared.Kind.the-variants.{First, Next, Repeat, Conflict}
+use Rattle.follower.specs.declared.Arrival.{Arrival}
+use Rattle.follower.specs.declared.Follower.{Follower}
+use Rattle.follower.specs.declared.Heard.{Heard}
+use Rattle.follower.specs.declared.Heard.the-variants.{Accepted as Arrived, Refused as RefusedPacket}
+use Rattle.follower.specs.declared.Followed.{Followed}
+use Rattle.answers.specs.declared.AyAnswer.{AyAnswer}
+use Rattle.answers.specs.declared.AyPacket.{AyPacket}
+use Rattle.answers.specs.declared.AyRepaired.{AyRepaired}
+use Rattle.answers.specs.declared.AyField.{AyField}
+use Rattle.answers.specs.declared.AyTurn.{AyTurn}
+use Rattle.answers.specs.declared.AyFollowed.{AyFollowed}
+use Rattle.answers.specs.Answers.{answerBy, packetFrom, repairedFrom, fieldFrom, turnFrom, kindNumber, heardFrom, followedFrom}
+use Rattle.answers.proofs.Laws.Done.{number-positive}
+
+-- no reason has number 0
+never-zero : {A : Type 0} (why : Reason) → numberOf why ≡ 0 → A
+never-zero why e = absurd (omega (arith, number-positive why))
+
+-- a refusal is known by its number and place
+refusal-known : (a b : Refusal) → numberOf (a .reason) ≡ numberOf (b .reason) → a .place ≡ b .place → a ≡ b
+refusal-known a b n p = together (a .reason) (b .reason) (a .place) (b .place) (number-inj _ _ n) p
+  where
+    together : (r s : Reason) (x y : ℕ) → r ≡ s → x ≡ y → _≡_ {A = Refusal} (record { reason = r; place = x }) (record { reason = s; place = y })
+    together r s x y e f = rw (e, f)
+
+-- so is what an answer was made from
+known : (a b : Option Refusal) → answerBy a .number ≡ answerBy b .number → answerBy a .place ≡ answerBy b .place → a ≡ b
+unfolding answerBy
+known none none n p = refl
+known none (some b) n p = never-zero (b .reason) (sym n)
+known (some a) none n p = never-zero (a .reason) n
+known (some a) (some b) n p = ap some (refusal-known a b n p)
+
+pub answer-tells : (a b : Option Refusal) → answerBy a ≡ answerBy b → a ≡ b
+answer-tells a b e = known a b (ap (λ (x : AyAnswer). x .number) e) (ap (λ (x : AyAnswer). x .place) e)
+
+pub packet-tells : (a b : Reading) → packetFrom a ≡ packetFrom b → a ≡ b
+unfolding packetFrom
+packet-tells (Accepted p) (Accepted q) e = ap (λ (x : AyPacket). Accepted (record { correction = x .correction; ci = x .ci; fixed = x .fixed })) e
+packet-tells (Accepted p) (Refused b) e = never-zero (b .reason) (sym (ap (λ (x : AyPacket). x .number) e))
+packet-tells (Refused a) (Accepted q) e = never-zero (a .reason) (ap (λ (x : AyPacket). x .number) e)
+packet-tells (Refused a) (Refused b) e = ap Refused (refusal-known a b (ap (λ (x : AyPacket). x .number) e) (ap (λ (x : AyPacket). x .place) e))
+
+pub repaired-tells : (a b : Repaired) → repairedFrom a ≡ repairedFrom b → a ≡ b
+unfolding repairedFrom
+repaired-tells (Fixed m) (Fixed n) e = ap (λ (x : AyRepaired). Fixed (x .fixed)) e
+repaired-tells (Fixed m) (RefusedRepair b) e = never-zero (b .reason) (sym (ap (λ (x : AyRepaired). x .number) e))
+repaired-tells (RefusedRepair a) (Fixed n) e = never-zero (a .reason) (ap (λ (x : AyRepaired). x .number) e)
+repaired-tells (RefusedRepair a) (RefusedRepair b) e =
+    ap RefusedRepair (refusal-known a b (ap (λ (x : AyRepaired). x .number) e) (ap (λ (x : AyRepaired). x .place) e))
+
+pub field-tells : (a b : Unpacked) → fieldFrom a ≡ fieldFrom b → a ≡ b
+unfolding fieldFrom
+field-tells (HeadOf h) (HeadOf k) e = ap (λ (x : AyField). HeadOf (record { yc = x .yc; line = x .line; offset = x .offset })) e
+field-tells (HeadOf h) (RefusedField b) e = never-zero (b .reason) (sym (ap (λ (x : AyField). x .number) e))
+field-tells (RefusedField a) (HeadOf k) e = never-zero (a .reason) (ap (λ (x : AyField). x .number) e)
+field-tells (RefusedField a) (RefusedField b) e =
+    ap RefusedField (refusal-known a b (ap (λ (x : AyField). x .number) e) (ap (λ (x : AyField). x .place) e))
+
+-- a check is known by the refusal in it
+checked-back : (c : Checked) → checkedOf (refusalIn c) ≡ c
+checked-back Passed = refl
+checked-back (RefusedCheck why) = refl
+
+pub turn-tells : (a b : Turn) → turnFrom a ≡ turnFrom b → a ≡ b
+unfolding turnFrom
+turn-tells a b e =
+    together (a .desk) (b .desk) (a .checked) (b .checked) (ap (λ (x : AyTurn). x .desk) e)
+    (sym (checked-back _) ∙ ap checkedOf (known _ _ (ap (λ (x : AyTurn). x .number) e) (ap (λ (x : AyTurn). x .place) e)) ∙ checked-back _)
+  where
+    together : (d f : Desk) (c k : Checked) → d ≡ f → c ≡ k → _≡_ {A = Turn} (record { desk = d; checked = c }) (record { desk = f; checked = k })
+    together d f c k p q = rw (p, q)
+
+-- the kind that a number is for; where it is for none, any will do
+kindNamed : ℕ → Kind
+kindNamed n = cond (eqb n 1) First (cond (eqb n 2) Next (cond (eqb n 3) Repeat Conflict))
+
+kind-back : (k : Kind) → kindNamed (kindNumber k) ≡ k
+unfolding kindNumber kindNamed
+kind-back First = refl
+kind-back Next = refl
+kind-back Repeat = refl
+kind-back Conflict = refl
+
+-- the arrival that a struct tells of
+arrivalIn : AyFollowed → Arrival
+arrivalIn x = record { kind = kindNamed (x .kind); ci = x .ci; fixed = x .fixed; missed = x .missed; onsets = x .onsets }
+
+arrival-back : (f : Follower) (a : Arrival) → arrivalIn (heardFrom f (Arrived a)) ≡ a
+unfolding arrivalIn heardFrom
+arrival-back f a = rw (kind-back (a .kind))
+
+heard-tells : (f g : Follower) (a b : Heard) → heardFrom f a ≡ heardFrom g b → a ≡ b
+unfolding heardFrom
+heard-tells f g (Arrived a) (Arrived b) e = ap Arrived (sym (arrival-back f a) ∙ ap arrivalIn e ∙ arrival-back g b)
+heard-tells f g (Arrived a) (RefusedPacket b) e = never-zero (b .reason) (sym (ap (λ (x : AyFollowed). x .number) e))
+heard-tells f g (RefusedPacket a) (Arrived b) e = never-zero (a .reason) (ap (λ (x : AyFollowed). x .number) e)
+heard-tells f g (RefusedPacket a) (RefusedPacket b) e =
+    ap RefusedPacket (refusal-known a b (ap (λ (x : AyFollowed). x .number) e) (ap (λ (x : AyFollowed). x .place) e))
+
+-- the follower in the struct is the one handed back
+follower-back : (f : Follower) (h : Heard) → heardFrom f h .follower ≡ f
+unfolding heardFrom
+follower-back f (Arrived a) = refl
+follower-back f (RefusedPacket why) = refl
+
+pub followed-tells : (a b : Followed) → followedFrom a ≡ followedFrom b → a ≡ b
+unfolding followedFrom
+followed-tells a b e =
+    together (a .follower) (b .follower) (a .heard) (b .heard)
+    (sym (follower-back _ (a .heard)) ∙ ap (λ (x : AyFollowed). x .follower) e ∙ follower-back _ (b .heard))
+    (heard-tells (a .follower) (b .follower) (a .heard) (b .heard) e)
+  where
+    together : (f g : Follower) (h k : Heard) → f ≡ g → h ≡ k → _≡_ {A = Followed} (record { follower = f; heard = h }) (record { follower = g; heard = k })
+    together f g h k p q = rw (p, q)

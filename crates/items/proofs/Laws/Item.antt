@@ -1,0 +1,128 @@
+-- One item by its number: which numbers have a row, what a row without a rule says, and the checks of an item's bytes.
+-- Assumes nothing.
+use mathlib.Core.Path.{_≡_, refl, ap, _∙_}
+use mathlib.Core.Bool.{Bool, true, false, cond, _&&_}
+use mathlib.Core.List.{List, [], _∷_}
+use mathlib.Core.Option.{Option, none, some}
+use Prim.Native.Nat.{ℕ, zero, suc, _<_, _≤_}
+use native.Mathlib.Omega.{arith}
+use lib.Dec.{T, eqb, ltb, eqb→eq, ltb→lt}
+use lib.ListN.{length, getD}
+use borrow.Author.Tests.{ne-eqb}
+use Rattle.refusal.specs.Chain.{require, passed}
+use Rattle.refusal.specs.Number.{refusalAt, refusalPlain}
+use Rattle.refusal.specs.declared.Reason.the-variants.{Item, Size}
+use Rattle.items.specs.Items.{Row, free, items}
+use Rattle.items.specs.Item.{rowOf, refusedIn, itemRefusal, placeIn, placeOf, ruleIn, ruleOf, reasonIn, reasonOf}
+use Rattle.basics.proofs.Laws.Test.{below, below-at, both-left, both-right}
+
+-- ---- the numbers that have a row
+
+pub row-none : (n : ℕ) → 12 < n → rowOf n items ≡ none
+unfolding rowOf items
+row-none n h =
+    simp (
+      ne-eqb n 1 (λ e. omega arith),
+      ne-eqb n 2 (λ e. omega arith),
+      ne-eqb n 3 (λ e. omega arith),
+      ne-eqb n 4 (λ e. omega arith),
+      ne-eqb n 5 (λ e. omega arith),
+      ne-eqb n 6 (λ e. omega arith),
+      ne-eqb n 7 (λ e. omega arith),
+      ne-eqb n 8 (λ e. omega arith),
+      ne-eqb n 9 (λ e. omega arith),
+      ne-eqb n 10 (λ e. omega arith),
+      ne-eqb n 11 (λ e. omega arith),
+      ne-eqb n 12 (λ e. omega arith),
+    )
+
+known : Option Row → Bool
+known none = false
+known (some i) = true
+
+all-known : T (below (λ (k : ℕ). known (rowOf (suc k) items)) 12)
+unfolding known rowOf items
+all-known = tt
+
+row-known : (n : ℕ) → 0 < n → n ≤ 12 → T (known (rowOf n items))
+row-known zero p h = absurd (omega arith)
+row-known (suc k) p h = below-at (λ (k : ℕ). known (rowOf (suc k) items)) 12 all-known k (omega arith)
+
+-- ---- a row without a rule
+
+-- what is so of a row and of the rest of the table
+either-row : {X : Type 0} (g : Option Row → X) (t : Bool) (i : Row) (o : Option Row) (x : X) → g (some i) ≡ x → g o ≡ x → g (cond t (some i) o) ≡ x
+either-row g true i o x p q = p
+either-row g false i o x p q = q
+
+-- what is so of an item that may hold anything and where there is none is so at each number but those of the six rules
+pub no-rule : {X : Type 0} (g : Option Row → X) (n : ℕ) (x : X) → ((k f l : ℕ) → g (some (free k f l)) ≡ x) → g none ≡ x
+    → (n ≡ 1 → ⊥) → (n ≡ 2 → ⊥) → (n ≡ 3 → ⊥) → (n ≡ 4 → ⊥) → (n ≡ 6 → ⊥) → (n ≡ 7 → ⊥) → g (rowOf n items) ≡ x
+unfolding rowOf items
+no-rule g n x q p n1 n2 n3 n4 n6 n7 =
+    simp (ne-eqb n 1 n1, ne-eqb n 2 n2, ne-eqb n 3 n3, ne-eqb n 4 n4, ne-eqb n 6 n6, ne-eqb n 7 n7)
+    (either-row g (eqb n 5) (free 5 26 1) _ x (q 5 26 1)
+    (either-row g (eqb n 8) (free 8 29 1) _ x (q 8 29 1)
+    (either-row g (eqb n 9) (free 9 30 4) _ x (q 9 30 4)
+    (either-row g (eqb n 10) (free 10 34 4) _ x (q 10 34 4)
+    (either-row g (eqb n 11) (free 11 38 4) _ x (q 11 38 4)
+    (either-row g (eqb n 12) (free 12 42 2) _ x (q 12 42 2) p))))))
+
+-- ---- where the items stand
+
+-- the table of first bytes, and that of lengths, from number 0 on
+abbrev pub firsts : List ℕ
+firsts = 0 ∷ 1 ∷ 9 ∷ 18 ∷ 22 ∷ 26 ∷ 27 ∷ 28 ∷ 29 ∷ 30 ∷ 34 ∷ 38 ∷ 42 ∷ []
+
+abbrev pub lengths : List ℕ
+lengths = 0 ∷ 8 ∷ 9 ∷ 4 ∷ 4 ∷ 1 ∷ 1 ∷ 1 ∷ 1 ∷ 4 ∷ 4 ∷ 4 ∷ 2 ∷ []
+
+stands : ℕ → Bool
+stands n = eqb (getD firsts n 0) (placeOf n .first) && (eqb (getD lengths n 0) (placeOf n .length) && ltb (placeOf n .first) 256)
+
+all-stand : T (below stands 13)
+unfolding stands placeOf placeIn rowOf items
+all-stand = tt
+
+module _ (n : ℕ) (h : n < 13) where
+  first-stands : T (eqb (getD firsts n 0) (placeOf n .first))
+  unfolding stands
+  first-stands = both-left (eqb (getD firsts n 0) (placeOf n .first)) (eqb (getD lengths n 0) (placeOf n .length) && ltb (placeOf n .first) 256) (below-at stands 13 all-stand n h)
+
+  rest-stands : T (eqb (getD lengths n 0) (placeOf n .length) && ltb (placeOf n .first) 256)
+  unfolding stands
+  rest-stands = both-right (eqb (getD firsts n 0) (placeOf n .first)) _ (below-at stands 13 all-stand n h)
+
+  pub first-at : getD firsts n 0 ≡ placeOf n .first
+  first-at = eqb→eq (getD firsts n 0) (placeOf n .first) first-stands
+
+  pub length-at : getD lengths n 0 ≡ placeOf n .length
+  length-at = eqb→eq (getD lengths n 0) (placeOf n .length) (both-left (eqb (getD lengths n 0) (placeOf n .length)) (ltb (placeOf n .first) 256) rest-stands)
+
+  pub first-lt : placeOf n .first < 256
+  first-lt = ltb→lt (placeOf n .first) 256 (both-right (eqb (getD lengths n 0) (placeOf n .length)) _ rest-stands)
+
+-- as long as the item of a number that is known
+pub long-at : {n k l : ℕ} → l ≡ placeOf n .length → n ≡ k → l ≡ placeOf k .length
+long-at e same = e ∙ ap (λ (m : ℕ). placeOf m .length) same
+
+-- ---- the checks of an item's bytes
+
+pub row-zero : rowOf 0 items ≡ none
+unfolding rowOf items
+row-zero = refl
+
+pub item-none : (n : ℕ) (bytes : List ℕ) → rowOf n items ≡ none → itemRefusal n bytes ≡ some (refusalPlain Item)
+unfolding itemRefusal refusedIn
+item-none n bytes e = rw e
+
+known-checks : (bytes : List ℕ) (o : Option Row) → T (known o)
+    → refusedIn bytes o ≡ require (eqb (length bytes) (placeIn o .length)) (refusalPlain Size) (require (ruleIn bytes o) (refusalAt (reasonIn o) (placeIn o .first)) passed)
+unfolding known refusedIn placeIn ruleIn reasonIn
+known-checks bytes none t = absurd t
+known-checks bytes (some i) t = refl
+
+pub item-checks : (n : ℕ) (bytes : List ℕ) → 0 < n → n ≤ 12
+    → itemRefusal n bytes ≡ require (eqb (length bytes) (placeOf n .length)) (refusalPlain Size) (require (ruleOf n bytes) (refusalAt (reasonOf n) (placeOf n .first)) passed)
+unfolding itemRefusal placeOf ruleOf reasonOf
+item-checks n bytes p h = known-checks bytes (rowOf n items) (row-known n p h)

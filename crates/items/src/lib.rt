@@ -1,0 +1,65 @@
+// The items of the record, each by its number: where it stands, what the bytes given for it are refused for, and which have places that aren't
+// read.
+mod item;
+
+ghost use mathlib.Core.Path.{_≡_};
+ghost use mathlib.Core.Bool.{_||_};
+ghost use lib.Dec.{eqb};
+ghost use Rattle.refusal.specs.Checked.{checkedOf};
+ghost use Rattle.items.specs.Item.{itemRefusal, placeOf};
+use refusal::Checked;
+use refusal::Reason;
+
+// Where an item stands: its first byte, counted from 1, and how many it has; 0 and 0 where there is no such item.
+pub struct ItemPlace {
+    pub first: usize,
+    pub length: usize,
+}
+
+const FIRST: [usize; 13] = [0, 1, 9, 18, 22, 26, 27, 28, 29, 30, 34, 38, 42];
+
+const LENGTH: [usize; 13] = [0, 8, 9, 4, 4, 1, 1, 1, 1, 4, 4, 4, 2];
+
+pub fn item_place(number: u8) -> ItemPlace
+    ensures { λ r. ⌜ r ≡ placeOf number ⌝ }
+{
+    if 12 < number {
+        return ItemPlace {
+            first: 0,
+            length: 0,
+        };
+    }
+    let at = number as usize;
+    ItemPlace {
+        first: FIRST[at],
+        length: LENGTH[at],
+    }
+}
+
+// What the bytes given for an item are refused for: no such item, another number of bytes than it has, or its rule.
+pub fn item_refusal(number: u8, bytes: &[u8]) -> Checked
+    ensures { λ r. ⌜ r ≡ checkedOf (itemRefusal number (now (bytes .entry))) ⌝ }
+{
+    if number == 0 {
+        return Checked::Refused(refusal::plain(Reason::Item));
+    }
+    if 12 < number {
+        return Checked::Refused(refusal::plain(Reason::Item));
+    }
+    let place = item_place(number);
+    let length = place.length;
+    if bytes.len() != length {
+        return Checked::Refused(refusal::plain(Reason::Size));
+    }
+    if !item::rule(number, bytes) {
+        return Checked::Refused(refusal::at(item::reason(number), place.first as u8));
+    }
+    Checked::Passed
+}
+
+// Is it a picture mode, of which not every place is read?
+pub fn is_picture(number: u8) -> bool
+    ensures { λ r. ⌜ r ≡ (eqb number 3 || eqb number 4) ⌝ }
+{
+    (number == 3) | (number == 4)
+}

@@ -1,0 +1,41 @@
+-- `reading::reader::packet` meets its contract: words are counted as fixed only with correction on.
+-- Assumes nothing.
+use mathlib.Core.Path.{sym, _∙_}
+use native.Mathlib.Omega.{arith}
+use lib.ListN.{take, drop}
+use Rattle.basics.proofs.Laws.Parts.{run-length}
+use Rattle.repair.proofs.Laws.Changes.{changed-words}
+use Rattle.reading.specs.Reading.{correctionOf, protectedOf}
+use Rattle.reading.proofs.Laws.Reader.{packet-on, packet-off}
+use borrow.Author.Needs.{needs}
+use Rattle.reading.proofs.reader.packet.Statement.{statement}
+use Rattle.reading.proofs.reader.packet.Tie as tie
+
+returns : tie.Need-returns
+unfolding correctionOf protectedOf
+returns c =
+    let a = c .before .before .before in
+    let s = a .before .before .before .before .before in
+    packet-on (s .args .words .now) (s .args .bytes .now) _ (sym (a .correction .ensures) ∙ c .before .before .if1 .taken) (c .count-fixed .ensures ∙ sym (changed-words (take 254 (drop 7 (s .args .words .now))) (s .args .bytes .now) (run-length (s .args .words .now) 7 254 (omega arith)) (s .pre .1)))
+
+returns-2 : tie.Need-returns-2
+unfolding correctionOf
+returns-2 c =
+    let a = c .before in
+    let s = a .before .before .before .before .before in
+    packet-off (s .args .words .now) (s .args .bytes .now) (sym (a .correction .ensures) ∙ c .if1 .left)
+
+pub packet-spec : {M : Type 1} → statement M
+packet-spec =
+    tie.close
+    (tie.spec
+    (λ c. search needs)
+    (λ c. search needs)
+    (λ c. search needs)
+    (λ c κs. search needs)
+    (λ c. search needs)
+    (λ c. search needs)
+    (λ c. search needs)
+    (λ c κs. search needs)
+    returns
+    returns-2)

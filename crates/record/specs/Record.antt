@@ -1,0 +1,35 @@
+-- The record of 248 bytes, what it is refused for, and its private area.
+-- Assumes nothing.
+use mathlib.Core.Bool.{cond}
+use mathlib.Core.List.{List, [], _∷_, _++_}
+use mathlib.Core.Option.{Option}
+use Prim.Native.Nat.{ℕ}
+use lib.Dec.{eqb}
+use lib.ListN.{length, drop, replicate}
+use Rattle.refusal.specs.Chain.{require, passed}
+use Rattle.refusal.specs.Number.{refusalAt, refusalPlain}
+use Rattle.refusal.specs.declared.Reason.the-variants.{Size}
+use Rattle.refusal.specs.declared.Refusal.{Refusal}
+use Rattle.items.specs.Items.{Row, items, part}
+
+-- the items' bytes, cleaned, one after the other
+unfoldable pub cleaned : List Row → List ℕ → List ℕ
+cleaned [] bytes = []
+cleaned (i ∷ is) bytes = i .clean (part i bytes) ++ cleaned is bytes
+
+-- the record: the items cleaned, zeros in the reserved area (bytes 44 to 107), and the private area (bytes 108 to 248) as it is
+unfoldable pub recordOf : List ℕ → List ℕ
+recordOf bytes = cleaned items bytes ++ replicate 64 0 ++ drop 107 bytes
+
+-- the first rule that is broken, with the item's first byte as its place
+unfoldable pub broken : List Row → List ℕ → Option Refusal
+broken [] bytes = passed
+broken (i ∷ is) bytes = require (i .rule (part i bytes)) (refusalAt (i .reason) (i .first)) (broken is bytes)
+
+-- what 248 bytes are refused for: their number, then the items' rules
+unfoldable pub recordRefusal : List ℕ → Option Refusal
+recordRefusal bytes = require (eqb (length bytes) 248) (refusalPlain Size) (broken items bytes)
+
+-- the private area: bytes 108 to 248 of 248, or nothing
+unfoldable pub privatePart : List ℕ → List ℕ
+privatePart bytes = cond (eqb (length bytes) 248) (drop 107 bytes) []

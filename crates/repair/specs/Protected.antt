@@ -1,0 +1,33 @@
+-- The 254 protected words: the words they are rewritten as, how many of them change, and what repair alone is refused for.
+-- Assumes nothing.
+use mathlib.Core.Bool.{cond, _&&_}
+use mathlib.Core.List.{List}
+use mathlib.Core.Option.{Option}
+use Prim.Native.Nat.{ℕ}
+use lib.Dec.{eqb}
+use lib.ListN.{length}
+use Rattle.anc.specs.Words.{narrow, lowBytes, soundWords}
+use Rattle.refusal.specs.Chain.{require, passed}
+use Rattle.refusal.specs.Number.{refusalPlain}
+use Rattle.refusal.specs.declared.Reason.the-variants.{Size, Wide, BeyondRepair, Room}
+use Rattle.refusal.specs.declared.Refusal.{Refusal}
+use Rattle.rs.specs.Decode.{changes, repairable, repaired}
+
+-- the words of the codeword that the low bytes are within three of
+unfoldable pub rewritten : List ℕ → List ℕ
+rewritten words = soundWords (repaired (lowBytes words))
+
+-- how many words differ, in all ten bits, from those they are rewritten as
+unfoldable pub fixedOf : List ℕ → ℕ
+fixedOf words = changes words (rewritten words)
+
+-- of 254 words and 254 bytes, how many words differ, in all ten bits, from the sound words of the bytes; of other numbers of them, 0
+unfoldable pub changedOf : List ℕ → List ℕ → ℕ
+changedOf words bytes = cond (eqb (length words) 254 && eqb (length bytes) 254) (changes words (soundWords bytes)) 0
+
+-- repair of words into room for so many: 21, 2, 9, 23
+unfoldable pub repairRefusal : List ℕ → ℕ → Option Refusal
+repairRefusal words room =
+    require (eqb (length words) 254) (refusalPlain Size)
+    (require (narrow words) (refusalPlain Wide)
+    (require (repairable (lowBytes words)) (refusalPlain BeyondRepair) (require (eqb room 254) (refusalPlain Room) passed)))

@@ -1,0 +1,57 @@
+// The repair of a packet's 254 protected words: rewritten as the sound words of the codeword near them, with a count of those that change.
+ghost use mathlib.Core.Path.{_≡_};
+ghost use lib.ListN.{length};
+ghost use Rattle.repair.specs.Protected.{changedOf};
+ghost use Rattle.repair.specs.Repair.{repairedOf, repairLeaves};
+use refusal::Reason;
+
+// What repair answers: how many words' ten bits changed, 0 to 254, or why there is no answer.
+pub enum Repaired {
+    Fixed(u8),
+    Refused(refusal::Refusal),
+}
+
+// Rewrites the 254 protected words as the sound words of the codeword within three bytes of what they carry. A refusal leaves `out`
+// as it was.
+pub fn repair(words: &[u16], out: &mut [u16]) -> Repaired
+    ensures { λ r. ⌜ (r ≡ repairedOf (now (words .entry)) (length (now (out .entry)))) × (now (out .exit) ≡ repairLeaves (now (words .entry)) (now (out .entry))) ⌝ }
+{
+    if words.len() != 254 {
+        return Repaired::Refused(refusal::plain(Reason::Size));
+    }
+    if !anc::narrow(words) {
+        return Repaired::Refused(refusal::plain(Reason::Wide));
+    }
+    let mut bytes = [0u8; 254];
+    anc::low_bytes(words, &mut bytes);
+    if !search::repair(&mut bytes) {
+        return Repaired::Refused(refusal::plain(Reason::BeyondRepair));
+    }
+    if out.len() != 254 {
+        return Repaired::Refused(refusal::plain(Reason::Room));
+    }
+    let fixed = count_fixed(words, &bytes);
+    anc::sound_words(&bytes, out);
+    Repaired::Fixed(fixed)
+}
+
+// How many of 254 words differ, in all ten bits, from the sound words of 254 bytes; of other numbers of them, 0.
+pub fn count_fixed(words: &[u16], bytes: &[u8]) -> u8
+    ensures { λ r. ⌜ r ≡ changedOf (now (words .entry)) (now (bytes .entry)) ⌝ }
+{
+    if words.len() != 254 {
+        return 0;
+    }
+    if bytes.len() != 254 {
+        return 0;
+    }
+    let mut fixed: u8 = 0;
+    let mut i = 0;
+    while i < words.len() {
+        if words[i] != anc::word_of(bytes[i]) {
+            fixed += 1;
+        }
+        i += 1;
+    }
+    fixed
+}

@@ -1,0 +1,25 @@
+-- Writing a packet from 248 bytes: what it is refused for, in the order of the checks, and what is written.
+-- Assumes nothing.
+use mathlib.Core.Bool.{Bool}
+use mathlib.Core.List.{List}
+use mathlib.Core.Option.{Option}
+use Prim.Native.Nat.{ℕ}
+use lib.Dec.{eqb, leb}
+use lib.ListN.{length}
+use Rattle.refusal.specs.Chain.{require, next, passed}
+use Rattle.refusal.specs.Number.{refusalPlain}
+use Rattle.refusal.specs.declared.Reason.the-variants.{Size, Index, Room}
+use Rattle.refusal.specs.declared.Refusal.{Refusal}
+use Rattle.record.specs.Record.{broken, recordOf}
+use Rattle.items.specs.Items.{items}
+use Rattle.writing.specs.Layout.{packetWords}
+
+-- 21, 27, 11 to 14, 23: the bytes, the index, and room for so many words
+unfoldable pub writeRefusal : ℕ → List ℕ → ℕ → Option Refusal
+writeRefusal ci bytes room =
+    require (eqb (length bytes) 248) (refusalPlain Size)
+    (require (leb ci 15) (refusalPlain Index) (next (broken items bytes) (require (eqb room 262) (refusalPlain Room) passed)))
+
+-- the words of the bytes' record
+unfoldable pub writtenWords : Bool → ℕ → List ℕ → List ℕ
+writtenWords correction ci bytes = packetWords correction ci (recordOf bytes)
