@@ -34,6 +34,6 @@ soundWords bytes = map wordOf bytes
 abbrev pub asLong : List ℕ → List ℕ → Bool
 asLong l m = eqb (length l) (length m)
 
--- as many new entries as there were, or what was there
+-- the new entries where there are as many as were there, else what was there
 unfoldable pub filledBy : List ℕ → List ℕ → List ℕ
 filledBy new old = cond (asLong new old) new old

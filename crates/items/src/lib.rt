@@ -20,6 +20,7 @@ const FIRST: [usize; 13] = [0, 1, 9, 18, 22, 26, 27, 28, 29, 30, 34, 38, 42];
 
 const LENGTH: [usize; 13] = [0, 8, 9, 4, 4, 1, 1, 1, 1, 4, 4, 4, 2];
 
+// The place of the item that has the number.
 pub fn item_place(number: u8) -> ItemPlace
     ensures { λ r. ⌜ r ≡ placeOf number ⌝ }
 {

@@ -41,21 +41,6 @@ fn all_fill(words: &[u16]) -> bool
     ok
 }
 
-// Are DID and SDID those of this packet?
-fn has_kind(words: &[u16]) -> bool
-    requires { ⌜ length (now words) ≡ 262 ⌝ }
-    ensures { λ r. ⌜ r ≡ (eqb (word (now (words .entry)) 3) 0x25F && eqb (word (now (words .entry)) 4) 0x1FE) ⌝ }
-{
-    (words[3] == 0x25F) & (words[4] == 0x1FE)
-}
-
-// Is the header sound, with zeros in b6 to b4?
-fn is_header(word: u16) -> bool
-    ensures { λ r. ⌜ r ≡ (isSound word && eqb (word / 16 % 8) 0) ⌝ }
-{
-    anc::is_sound(word) & (word / 16 % 8 == 0)
-}
-
 // What the words are refused for before the protected ones are looked at.
 fn head_refusal(words: &[u16]) -> Checked
     ensures { λ r. ⌜ r ≡ checkedOf (headRefusal (now (words .entry))) ⌝ }
@@ -63,12 +48,15 @@ fn head_refusal(words: &[u16]) -> Checked
     if words.len() != 262 {
         return Checked::Refused(refusal::plain(Reason::Length));
     }
+    let is_kind = (words[3] == 0x25F) & (words[4] == 0x1FE);
+    let header = words[6];
     let length = Checked::Passed;
     let wide = then(length, anc::narrow(words), Reason::Wide, 0);
     let flag = then(wide, anc::has_flag(words), Reason::Flag, 0);
-    let kind = then(flag, has_kind(words), Reason::Kind, 0);
+    let kind = then(flag, is_kind, Reason::Kind, 0);
     let count = then(kind, words[5] == 0x2FF, Reason::Count, 0);
-    then(count, is_header(words[6]), Reason::Header, 0)
+    let is_header = anc::is_sound(header) & (header / 16 % 8 == 0);
+    then(count, is_header, Reason::Header, 0)
 }
 
 // Fills `out` with the bytes of the 254 protected words as they are read, and says what the words are refused for.
@@ -83,13 +71,6 @@ fn read_bytes(words: &[u16], correction: bool, out: &mut [u8]) -> Checked
     }
     let parity = then(none, all_sound(&words[0..248]), Reason::Parity, 0);
     then(parity, all_fill(&words[248..254]), Reason::Fill, 0)
-}
-
-// Is the correction bit of the header set?
-fn correction(header: u16) -> bool
-    ensures { λ r. ⌜ r ≡ eqb (header / 128 % 2) 1 ⌝ }
-{
-    header / 128 % 2 == 1
 }
 
 // The checksum of the words from DID to the last user word, with the sound words of the bytes in the protected places.
@@ -133,7 +114,7 @@ fn check_body(words: &[u16], bytes: &mut [u8]) -> Checked
     requires { ⌜ (length (now words) ≡ 262) × (length (now bytes) ≡ 254) ⌝ }
     ensures { λ r. ⌜ (r ≡ checkedOf (bodyRefusal (now (words .entry)))) × (now (bytes .exit) ≡ guardBytes (correctionOf (now (words .entry))) (protectedOf (now (words .entry)))) ⌝ }
 {
-    let on = correction(words[6]);
+    let on = words[6] / 128 % 2 == 1;
     let guarded = read_bytes(&words[7..261], on, bytes);
     match guarded {
         Checked::Passed => tail_refusal(words, on, bytes),
@@ -160,7 +141,7 @@ pub(crate) fn packet(words: &[u16], bytes: &[u8]) -> Packet
     ensures { λ r. ⌜ r ≡ packetBy (now (words .entry)) (now (bytes .entry)) ⌝ }
 {
     let ci = (words[6] % 16) as u8;
-    if correction(words[6]) {
+    if words[6] / 128 % 2 == 1 {
         let fixed = repair::count_fixed(&words[7..261], bytes);
         return Packet {
             correction: true,

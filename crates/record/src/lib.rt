@@ -1,5 +1,5 @@
 // The record: the 248 bytes of a packet's items, reserved area and private area. What they are refused for, the record of some bytes,
-// in which every place that isn't read is zero, and the private area as a part of the caller's own bytes.
+// in which every place that isn't read is zero, one item's bytes in it, and the private area as a part of the caller's own bytes.
 ghost use mathlib.Core.Path.{_≡_};
 ghost use lib.ListN.{length};
 ghost use Rattle.record.specs.Record.{recordRefusal, privatePart};

@@ -1,7 +1,10 @@
 -- `reading::reader::packet` meets its contract: words are counted as fixed only with correction on.
 -- Assumes nothing.
 use mathlib.Core.Path.{sym, _∙_}
+use mathlib.Core.List.{List}
+use Prim.Native.Nat.{ℕ}
 use native.Mathlib.Omega.{arith}
+use borrow.Author.Tests.{eq-eqb, ne-eqb}
 use lib.ListN.{take, drop}
 use Rattle.basics.proofs.Laws.Parts.{run-length}
 use Rattle.repair.proofs.Laws.Changes.{changed-words}
@@ -14,16 +17,18 @@ use Rattle.reading.proofs.reader.packet.Tie as tie
 returns : tie.Need-returns
 unfolding correctionOf protectedOf
 returns c =
-    let a = c .before .before .before in
-    let s = a .before .before .before .before .before in
-    packet-on (s .args .words .now) (s .args .bytes .now) _ (sym (a .correction .ensures) ∙ c .before .before .if1 .taken) (c .count-fixed .ensures ∙ sym (changed-words (take 254 (drop 7 (s .args .words .now))) (s .args .bytes .now) (run-length (s .args .words .now) 7 254 (omega arith)) (s .pre .1)))
+    let t = c .before .before in
+    let s = t .before .before .before .before .before in
+    let ws : List ℕ = s .args .words .now in
+    let bytes : List ℕ = s .args .bytes .now in
+    packet-on ws bytes _ (eq-eqb _ _ (t .if1 .taken))
+    (c .count-fixed .ensures ∙ sym (changed-words (take 254 (drop 7 ws)) bytes (run-length ws 7 254 (omega arith)) (s .pre .1)))
 
 returns-2 : tie.Need-returns-2
 unfolding correctionOf
 returns-2 c =
-    let a = c .before in
-    let s = a .before .before .before .before .before in
-    packet-off (s .args .words .now) (s .args .bytes .now) (sym (a .correction .ensures) ∙ c .if1 .left)
+    let s = c .before .before .before .before .before in
+    packet-off (s .args .words .now) (s .args .bytes .now) (ne-eqb _ _ (c .if1 .left))
 
 pub packet-spec : {M : Type 1} → statement M
 packet-spec =
@@ -32,7 +37,6 @@ packet-spec =
     (λ c. search needs)
     (λ c. search needs)
     (λ c. search needs)
-    (λ c κs. search needs)
     (λ c. search needs)
     (λ c. search needs)
     (λ c. search needs)
