@@ -42,19 +42,12 @@ pub(crate) fn undos_after(edits: usize) -> Undone {
     let mut count: u64 = 0;
     let mut n: usize = 0;
     while n < 100 {
-        let turn = desk.undo();
-        let checked = turn.checked;
-        match checked {
-            refusal::Checked::Passed => {}
-            refusal::Checked::Refused(why) => {
-                let reason = why.reason;
-                return Undone {
-                    count,
-                    number: refusal::number(reason) as u64,
-                };
-            }
+        let told = answers::turn(desk.undo());
+        let number = told.number as u64;
+        if number != 0 {
+            return Undone { count, number };
         }
-        let next = turn.desk;
+        let next = told.desk;
         desk = next;
         count = std::num::wrapping_add_u64(count, 1);
         n += 1;
