@@ -10,8 +10,8 @@
  * comes back.
  *
  * number is 0 where the call is done, else the refusal's number, and place says where (the first byte of the item for 11 to 14, else 0).
- * A refused call leaves its buffers and the desk as they were, and what stands beside number and place is 0; a follower counts the
- * refusal and changes nothing else.
+ * A refused call leaves its buffers as they were. The desk that it hands back is the one that was handed in, and the follower has one more
+ * refusal counted and is otherwise the one that was handed in; what else stands beside number and place is 0.
  *
  *    No.  given when
  *     1   not 262 words

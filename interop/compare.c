@@ -1,4 +1,4 @@
-/* Compares the archive with libfec, with a check of our own that works another way, and with GStreamer's encoder of ancillary data:
+/* Compares the archive with libfec, with a check of our own, and with GStreamer's encoder of ancillary data:
  *   - deliveries of 254 words: clean, with one to eight changed bytes, with wrong upper bits, and junk; repair must give exactly what the check
  *     finds, and agree with libfec wherever libfec gives a codeword within three bytes or gives up;
  *   - packets: the 262 words of random records must be those of GStreamer's encoder, and must read back.
@@ -28,7 +28,7 @@ static void fail(const char *what, long n)
     exit(1);
 }
 
-/* ---- a check of our own: Peterson's equations, solved by elimination, places found by trial */
+/* ---- a check of our own: Peterson's equations, which the search goes by too, but solved by elimination, and every place tried */
 
 static uint8_t mul(uint8_t a, uint8_t b)
 {

@@ -1,11 +1,16 @@
 -- Runs of words: do they begin a packet, is each of ten bits, the bytes that they carry, and bytes as sound words.
 -- Assumes nothing.
-use mathlib.Core.Bool.{Bool, cond}
+use mathlib.Core.Bool.{Bool}
 use mathlib.Core.List.{List, [], _∷_, map}
+use mathlib.Core.Option.{Option}
 use Prim.Native.Nat.{ℕ, _%_}
 use lib.Dec.{leb, eqb}
 use lib.ListN.{length, take}
 use Rattle.basics.specs.Each.{all, same}
+use Rattle.refusal.specs.Chain.{require, passed, leftBy}
+use Rattle.refusal.specs.Number.{refusalPlain}
+use Rattle.refusal.specs.declared.Reason.the-variants.{Room}
+use Rattle.refusal.specs.declared.Refusal.{Refusal}
 use Rattle.anc.specs.Word.{wordOf}
 
 -- the three words in front of a packet
@@ -28,12 +33,12 @@ lowBytes words = map (λ w. w % 256) words
 unfoldable pub soundWords : List ℕ → List ℕ
 soundWords bytes = map wordOf bytes
 
--- ---- what is left in a lent buffer
+-- ---- a lent buffer that is filled
 
--- are two lists of one length?
-abbrev pub asLong : List ℕ → List ℕ → Bool
-asLong l m = eqb (length l) (length m)
+-- 23: the new entries, into room for so many
+unfoldable pub fillRefusal : List ℕ → ℕ → Option Refusal
+fillRefusal new room = require (eqb (length new) room) (refusalPlain Room) passed
 
--- the new entries where there are as many as were there, else what was there
-unfoldable pub filledBy : List ℕ → List ℕ → List ℕ
-filledBy new old = cond (asLong new old) new old
+-- the new entries, or what was there
+unfoldable pub fillLeaves : List ℕ → List ℕ → List ℕ
+fillLeaves new old = leftBy (fillRefusal new (length old)) new old

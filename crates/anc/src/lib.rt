@@ -1,8 +1,12 @@
 // Ten-bit words, as ancillary packets of any kind carry them, and the checksum of a run of them.
 ghost use mathlib.Core.Path.{_≡_};
 ghost use Prim.Native.Nat.{_<_};
+ghost use lib.ListN.{length};
+ghost use Rattle.refusal.specs.Checked.{checkedOf};
 ghost use Rattle.anc.specs.Word.{parityOf, withB9, wordOf, isSound, checksumOf};
-ghost use Rattle.anc.specs.Words.{hasFlag, narrow, lowBytes, soundWords, asLong, filledBy};
+ghost use Rattle.anc.specs.Words.{hasFlag, narrow, lowBytes, soundWords, fillRefusal, fillLeaves};
+use refusal::Checked;
+use refusal::Reason;
 
 // The even parity of a byte: each half is folded onto the other until one bit is left.
 fn parity(byte: u8) -> u8
@@ -76,32 +80,32 @@ pub fn narrow(words: &[u16]) -> bool
     top <= 1023
 }
 
-// Fills `out` with the low bytes of the words: true; or leaves it as it was, where it has another length: false.
-pub fn low_bytes(words: &[u16], out: &mut [u8]) -> bool
-    ensures { λ r. ⌜ (r ≡ asLong (now (words .entry)) (now (out .entry))) × (now (out .exit) ≡ filledBy (lowBytes (now (words .entry))) (now (out .entry))) ⌝ }
+// Fills `out` with the low bytes of the words. Room for another number of bytes is refused, and stays as it was.
+pub fn low_bytes(words: &[u16], out: &mut [u8]) -> Checked
+    ensures { λ r. ⌜ (r ≡ checkedOf (fillRefusal (lowBytes (now (words .entry))) (length (now (out .entry))))) × (now (out .exit) ≡ fillLeaves (lowBytes (now (words .entry))) (now (out .entry))) ⌝ }
 {
     if words.len() != out.len() {
-        return false;
+        return Checked::Refused(refusal::plain(Reason::Room));
     }
     let mut i = 0;
     while i < words.len() {
         out[i] = (words[i] % 256) as u8;
         i += 1;
     }
-    true
+    Checked::Passed
 }
 
-// Fills `out` with the sound words of the bytes: true; or leaves it as it was, where it has another length: false.
-pub fn sound_words(bytes: &[u8], out: &mut [u16]) -> bool
-    ensures { λ r. ⌜ (r ≡ asLong (now (bytes .entry)) (now (out .entry))) × (now (out .exit) ≡ filledBy (soundWords (now (bytes .entry))) (now (out .entry))) ⌝ }
+// Fills `out` with the sound words of the bytes. Room for another number of words is refused, and stays as it was.
+pub fn sound_words(bytes: &[u8], out: &mut [u16]) -> Checked
+    ensures { λ r. ⌜ (r ≡ checkedOf (fillRefusal (soundWords (now (bytes .entry))) (length (now (out .entry))))) × (now (out .exit) ≡ fillLeaves (soundWords (now (bytes .entry))) (now (out .entry))) ⌝ }
 {
     if bytes.len() != out.len() {
-        return false;
+        return Checked::Refused(refusal::plain(Reason::Room));
     }
     let mut i = 0;
     while i < bytes.len() {
         out[i] = word_of(bytes[i]);
         i += 1;
     }
-    true
+    Checked::Passed
 }

@@ -66,7 +66,8 @@ impl Desk {
             };
         }
         let count = steps::held(self.count);
-        let step = steps::step_of(item, &was);
+        let kept = steps::step_of(item, &was);
+        let step = kept.step;
         let before = self.steps;
         let steps = steps::push(before, count, step);
         Turn {

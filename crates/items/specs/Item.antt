@@ -11,6 +11,7 @@ use Rattle.refusal.specs.Number.{refusalAt, refusalPlain}
 use Rattle.refusal.specs.declared.Reason.{Reason}
 use Rattle.refusal.specs.declared.Reason.the-variants.{Item, Size}
 use Rattle.refusal.specs.declared.Refusal.{Refusal}
+use Rattle.refusal.specs.declared.Checked.the-variants.{Passed, Refused}
 use Rattle.items.specs.declared.ItemPlace.{ItemPlace}
 use Rattle.items.specs.Items.{Row, items, part}
 
@@ -28,10 +29,10 @@ refusedIn bytes (some i) =
 unfoldable pub itemRefusal : ℕ → List ℕ → Option Refusal
 itemRefusal number bytes = refusedIn bytes (rowOf number items)
 
--- its first byte, counted from 1, and its length; 0 and 0 where there is no such item
+-- its first byte, counted from 1, and its length; no such item is refused, with 0 and 0 beside the refusal
 unfoldable pub placeIn : Option Row → ItemPlace
-placeIn none = record { first = 0; length = 0 }
-placeIn (some i) = record { first = i .first; length = i .long }
+placeIn none = record { checked = Refused (refusalPlain Item); first = 0; length = 0 }
+placeIn (some i) = record { checked = Passed; first = i .first; length = i .long }
 
 unfoldable pub placeOf : ℕ → ItemPlace
 placeOf number = placeIn (rowOf number items)

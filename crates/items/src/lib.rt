@@ -4,14 +4,16 @@ mod item;
 
 ghost use mathlib.Core.Path.{_≡_};
 ghost use mathlib.Core.Bool.{_||_};
+ghost use mathlib.Core.Option.{none};
 ghost use lib.Dec.{eqb};
 ghost use Rattle.refusal.specs.Checked.{checkedOf};
-ghost use Rattle.items.specs.Item.{itemRefusal, placeOf};
+ghost use Rattle.items.specs.Item.{itemRefusal, placeIn, placeOf};
 use refusal::Checked;
 use refusal::Reason;
 
-// Where an item stands: its first byte, counted from 1, and how many it has; 0 and 0 where there is no such item.
+// Where an item stands: its first byte, counted from 1, and how many it has; 0 and 0 beside a refusal.
 pub struct ItemPlace {
+    pub checked: Checked,
     pub first: usize,
     pub length: usize,
 }
@@ -20,18 +22,30 @@ const FIRST: [usize; 13] = [0, 1, 9, 18, 22, 26, 27, 28, 29, 30, 34, 38, 42];
 
 const LENGTH: [usize; 13] = [0, 8, 9, 4, 4, 1, 1, 1, 1, 4, 4, 4, 2];
 
-// The place of the item that has the number.
+// There is no such item.
+fn no_item() -> ItemPlace
+    ensures { λ r. ⌜ r ≡ placeIn none ⌝ }
+{
+    ItemPlace {
+        checked: Checked::Refused(refusal::plain(Reason::Item)),
+        first: 0,
+        length: 0,
+    }
+}
+
+// The place of the item that has the number. Where there is no such item, that is refused.
 pub fn item_place(number: u8) -> ItemPlace
     ensures { λ r. ⌜ r ≡ placeOf number ⌝ }
 {
+    if number == 0 {
+        return no_item();
+    }
     if 12 < number {
-        return ItemPlace {
-            first: 0,
-            length: 0,
-        };
+        return no_item();
     }
     let at = number as usize;
     ItemPlace {
+        checked: Checked::Passed,
         first: FIRST[at],
         length: LENGTH[at],
     }
@@ -41,13 +55,11 @@ pub fn item_place(number: u8) -> ItemPlace
 pub fn item_refusal(number: u8, bytes: &[u8]) -> Checked
     ensures { λ r. ⌜ r ≡ checkedOf (itemRefusal number (now (bytes .entry))) ⌝ }
 {
-    if number == 0 {
-        return Checked::Refused(refusal::plain(Reason::Item));
-    }
-    if 12 < number {
-        return Checked::Refused(refusal::plain(Reason::Item));
-    }
     let place = item_place(number);
+    let known = place.checked;
+    if let Checked::Refused(_) = known {
+        return known;
+    }
     let length = place.length;
     if bytes.len() != length {
         return Checked::Refused(refusal::plain(Reason::Size));

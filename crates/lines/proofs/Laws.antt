@@ -1,3 +1,4 @@
 -- Laws of what is printed.
 pub mod Page
 pub mod Shown
+pub mod Whole

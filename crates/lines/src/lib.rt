@@ -4,7 +4,7 @@ pub mod page;
 ghost use mathlib.Core.Path.{_≡_};
 ghost use Prim.Native.Nat.{_≤_};
 ghost use lib.ListN.{length};
-ghost use Rattle.lines.specs.Text.{blank, written};
+ghost use Rattle.lines.specs.Text.{places, blank, written};
 ghost use Rattle.lines.specs.Shown.{flagOf, threeLine, refusedLine, fieldLine, packetLine, itemLine, itemLines, packetLines, shown};
 use page::Page;
 
@@ -105,9 +105,9 @@ fn show_packet(head: b40::Head, words: &[u16]) -> Page
     }
 }
 
-// The page of a field. What is written lies within the 256 places, so that a caller can hand it on.
+// The page of a field. What is written lies within its places, so that a caller can hand it on.
 pub fn show(field: &[u8]) -> Page
-    ensures { λ r. ⌜ (r ≡ shown (now (field .entry))) × (length (r .bytes) ≡ 256) × (r .length ≤ 256) ⌝ }
+    ensures { λ r. ⌜ (r ≡ shown (now (field .entry))) × (length (r .bytes) ≡ places) × (r .length ≤ places) ⌝ }
 {
     let mut words = [0u16; 262];
     let unpacked = b40::unpack(field, &mut words);

@@ -1,9 +1,15 @@
--- The promises: worked values; demand 1 (Only, Refused), demand 2 (History) and demand 3 (Line, with a line worked out).
+-- The promises: worked values; demand 1 (Only, Refused, Places), demand 2 (Packets, History) and demand 3 (Line, with a line worked out); and
+-- what is printed.
 pub mod Values
 pub mod Only
 pub mod Calls
+pub mod PacketCalls
+pub mod Packets
 pub mod Refused
+pub mod Placed
+pub mod Places
 pub mod History
 pub mod Arrival
 pub mod Line
 pub mod Worked
+pub mod Printed

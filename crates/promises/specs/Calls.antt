@@ -1,4 +1,5 @@
--- The calls of desk and follower, through their contracts: which answers, and which words left in a lent buffer, a contract allows.
+-- The calls of desk and follower, and the one that prints a field, through their contracts: which answers, and which words left in a lent
+-- buffer, a contract allows.
 -- Assumes nothing.
 use mathlib.Core.Path.{_≡_}
 use mathlib.Core.Bool.{Bool}
@@ -25,6 +26,9 @@ use Rattle.follower.proofs.Follower.open.Kinds as begin-types
 use Rattle.follower.proofs.Follower.open.Reads as begin-contract
 use Rattle.follower.proofs.Follower.follow.Kinds as follow-types
 use Rattle.follower.proofs.Follower.follow.Reads as follow-contract
+use Rattle.lines.specs.declared.page.Page.{Page}
+use Rattle.lines.proofs.show.Kinds as show-types
+use Rattle.lines.proofs.show.Reads as show-contract
 
 -- In each of these, `input` is what the call was given and `exit` what its parameters are once it has returned; `allowed` is the contract.
 
@@ -80,3 +84,11 @@ pub record Follows (f : Follower) (words : List ℕ) (answer : Followed) : Type 
   pub own : input .0 ≡ f
   pub lent : now (input .1 .0) ≡ words
   pub allowed : follow-contract.Learnt κs input answer exit
+
+-- the lines of a field are written on a page
+pub record Shows (field : List ℕ) (page : Page) : Type 0 where
+  pub κs : Lfts 1
+  pub input : Dens κs show-types.ps
+  pub exit : AtExit (endedOf 1 show-types.ps show-types.r) κs
+  pub lent : now (input .0) ≡ field
+  pub allowed : show-contract.Learnt κs input page exit

@@ -1,6 +1,9 @@
 pub mod Values
 pub mod Only
 pub mod Refused
+pub mod Places
 pub mod Calls
+pub mod PacketCalls
+pub mod Packets
 pub mod History
 pub mod Line

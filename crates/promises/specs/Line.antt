@@ -67,7 +67,7 @@ opening d f =
       repeated = 0;
     }
 
--- an edit or an undo
+-- the desk is handed back and nothing is sent: an edit, an undo, or a send that is refused for its room
 abbrev pub turned : Scene → Desk → Model → Scene
 turned s d m =
     record {
@@ -132,12 +132,16 @@ heard s a repeats =
     }
 
 -- Every line: packets are sent one after the other; each is dropped, or delivered after at most fourteen that were dropped in a row since
--- the delivery before; a delivered packet may be delivered again, any number of times, before the next one is sent.
+-- the delivery before; a delivered packet may be delivered again, any number of times, before the next one is sent. A send into a buffer
+-- of other than 262 words may be tried at any time, also while a packet is on the line: it is refused, and no more than the desk is handed
+-- back.
 pub data Line : Scene → Type 0 where
   opens : {d : Desk} {f : Follower} → Opens true d → Begins f → Line (opening d f)
   turns : {s : Scene} {d : Desk} {m : Model} → Line s → Turns (s .desk) (s .history) d m → Line (turned s d m)
   sends : {s : Scene} {old : List ℕ} {answer : Turn} {left : List ℕ} → Line s → (s .fate ≡ waiting → ⊥) → length old ≡ 262
       → Sends (s .desk) old answer left → Line (sent s (answer .desk) left)
+  no-room : {s : Scene} {old : List ℕ} {answer : Turn} {left : List ℕ} → Line s → (length old ≡ 262 → ⊥) → Sends (s .desk) old answer left
+      → Line (turned s (answer .desk) (s .history))
   drops : {s : Scene} → Line s → s .fate ≡ waiting → Line (lost s)
   delivers : {s : Scene} {arrived : List ℕ} {answer : Followed} → Line s → s .fate ≡ waiting → (s .begun ≡ true → s .gap ≤ 14)
       → Delivers (s .words) arrived → Follows (s .follower) arrived answer → Line (heard s answer (s .repeated))

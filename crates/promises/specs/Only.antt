@@ -14,11 +14,11 @@ module _ (n : ℕ) (ps : List (PK n)) (r : RK n) where
   OneAnswer Allowed =
       (κs : Lfts n) (input : Dens κs ps) (a b : resT r κs .Denot) (s t : AtExit (endedOf n ps r) κs) → Allowed κs input a s → Allowed κs input b t → a ≡ b
 
-  -- where a part of what was lent is handed out: any two have the same bytes
-  abbrev pub OnePart : ((κs : Lfts n) → resT r κs .Denot → List ℕ) → Out n ps r → Type 0
-  OnePart bytes Allowed =
+  -- where a part of what was lent is handed out: any two have the same bytes, and lie in the same place
+  abbrev pub OnePart : ((κs : Lfts n) → resT r κs .Denot → List ℕ) → ((κs : Lfts n) → resT r κs .Denot → ℕ × ℕ) → Out n ps r → Type 0
+  OnePart bytes place Allowed =
       (κs : Lfts n) (input : Dens κs ps) (a b : resT r κs .Denot) (s t : AtExit (endedOf n ps r) κs) → Allowed κs input a s → Allowed κs input b t
-      → bytes κs a ≡ bytes κs b
+      → (bytes κs a ≡ bytes κs b) × (place κs a ≡ place κs b)
 
   -- where a buffer is lent: any two answers are equal, and so is what is left in the buffer
   abbrev pub OneOutcome : ((κs : Lfts n) → AtExit (endedOf n ps r) κs → List ℕ) → Out n ps r → Type 0

@@ -7,7 +7,7 @@ use Prim.Native.Nat.{ℕ}
 use lib.ListN.{getD, replicate}
 use Rattle.anc.specs.Word.{wordOf}
 use Rattle.rs.specs.Codeword.{parityOf}
-use Rattle.rules.specs.Rules.{soundByte, pictureRule, timeByte}
+use Rattle.rules.specs.Rules.{soundByte, pictureRule, timeRule}
 use Rattle.anc.specs.Words.{soundWords}
 use Rattle.writing.specs.Layout.{packetWords}
 use Rattle.desk.specs.Desk.{opening}
@@ -21,9 +21,9 @@ sumWord words = getD words 261 0
 abbrev pub picture : ℕ → Bool
 picture w0 = pictureRule (w0 ∷ 0 ∷ 0 ∷ 0 ∷ [])
 
--- a second by its byte
+-- a second by its byte, in a time of which nothing else is sent
 abbrev pub second : ℕ → Bool
-second b = timeByte 0 59 b
+second b = timeRule (0xFF ∷ 0xFF ∷ 0xFF ∷ 0xFF ∷ 0xFF ∷ 0xFF ∷ b ∷ 0xFF ∷ 0xFF ∷ [])
 
 -- how many packets a follower misses from one index to another
 abbrev pub missedFrom : ℕ → ℕ → ℕ

@@ -4,3 +4,4 @@ pub mod Again
 pub mod Whole
 pub mod Reader
 pub mod Answer
+pub mod Beyond

@@ -1,5 +1,6 @@
--- Reading a packet: its parts, what it is refused for in the order of the checks, and what is read.
+-- Reading a packet: its parts, what it is refused for in the order of the checks, what is read, and its words once it is written again.
 -- Assumes nothing.
+use mathlib.Core.Path.{_≡_}
 use mathlib.Core.Bool.{Bool, cond, _&&_}
 use mathlib.Core.List.{List, _++_}
 use mathlib.Core.Option.{Option}
@@ -90,3 +91,13 @@ readIntoRefusal words room = next (readRefusal words) (require (eqb room 248) (r
 -- the record that is read
 unfoldable pub readRecord : List ℕ → List ℕ
 readRecord words = recordOf (readBytes words)
+
+-- ---- a packet written again
+
+-- its places that aren't read were zero: the bytes that are read are their record
+abbrev pub Clean : List ℕ → Type 0
+Clean words = readRecord words ≡ readBytes words
+
+-- its rewritten words: the protected ones as they are read, all else as it was delivered
+unfoldable pub rewrittenPacket : List ℕ → List ℕ
+rewrittenPacket words = take 7 words ++ readWords words ++ drop 261 words

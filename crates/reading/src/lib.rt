@@ -38,10 +38,11 @@ pub fn read_packet_into(words: &[u16], out: &mut [u8]) -> Reading
     let checked = reader::check(words, &mut bytes);
     match checked {
         refusal::Checked::Passed => {
-            if !record::write_record(&bytes[0..248], out) {
-                return Reading::Refused(refusal::plain(refusal::Reason::Room));
+            let wrote = record::write_record(&bytes[0..248], out);
+            match wrote {
+                refusal::Checked::Passed => Reading::Accepted(reader::packet(words, &bytes)),
+                refusal::Checked::Refused(why) => Reading::Refused(why),
             }
-            Reading::Accepted(reader::packet(words, &bytes))
         }
         refusal::Checked::Refused(why) => Reading::Refused(why),
     }

@@ -5,6 +5,8 @@ ghost use Prim.Native.Nat.{_<_, _/_, _%_};
 ghost use lib.Dec.{eqb};
 ghost use lib.ListN.{length};
 ghost use Rattle.anc.specs.Word.{isSound, checksumOf};
+ghost use Rattle.anc.specs.Words.{soundWords};
+ghost use Rattle.rs.specs.Decode.{changes};
 ghost use Rattle.basics.specs.Each.{all};
 ghost use Rattle.refusal.specs.Checked.{checkedOf};
 ghost use Rattle.refusal.specs.Chain.{leftBy};
@@ -65,10 +67,10 @@ fn read_bytes(words: &[u16], correction: bool, out: &mut [u8]) -> Checked
     ensures { λ r. ⌜ (r ≡ checkedOf (protectedRefusal correction (now (words .entry)))) × (now (out .exit) ≡ guardBytes correction (now (words .entry))) ⌝ }
 {
     anc::low_bytes(words, out);
-    let none = Checked::Passed;
     if correction {
-        return then(none, search::repair(out), Reason::BeyondRepair, 0);
+        return search::repair(out);
     }
+    let none = Checked::Passed;
     let parity = then(none, all_sound(&words[0..248]), Reason::Parity, 0);
     then(parity, all_fill(&words[248..254]), Reason::Fill, 0)
 }
@@ -135,6 +137,18 @@ pub(crate) fn check(words: &[u16], bytes: &mut [u8]) -> Checked
     }
 }
 
+// How many of 254 words changed against 254 bytes; of so many, counting them is never refused.
+fn fixed(words: &[u16], bytes: &[u8]) -> u8
+    requires { ⌜ (length (now words) ≡ 254) × (length (now bytes) ≡ 254) ⌝ }
+    ensures { λ r. ⌜ r ≡ changes (now (words .entry)) (soundWords (now (bytes .entry))) ⌝ }
+{
+    let counted = repair::count_fixed(words, bytes);
+    match counted {
+        repair::Repaired::Fixed(many) => many,
+        repair::Repaired::Refused(_) => 0,
+    }
+}
+
 // What is told of accepted words whose bytes are read.
 pub(crate) fn packet(words: &[u16], bytes: &[u8]) -> Packet
     requires { ⌜ (length (now words) ≡ 262) × (length (now bytes) ≡ 254) ⌝ }
@@ -142,11 +156,10 @@ pub(crate) fn packet(words: &[u16], bytes: &[u8]) -> Packet
 {
     let ci = (words[6] % 16) as u8;
     if words[6] / 128 % 2 == 1 {
-        let fixed = repair::count_fixed(&words[7..261], bytes);
         return Packet {
             correction: true,
             ci,
-            fixed,
+            fixed: fixed(&words[7..261], bytes),
         };
     }
     Packet {

@@ -3,7 +3,7 @@
 use mathlib.Core.Bool.{cond}
 use mathlib.Core.List.{List, [], _∷_, _++_}
 use mathlib.Core.Option.{Option}
-use Prim.Native.Nat.{ℕ}
+use Prim.Native.Nat.{ℕ, _+_}
 use lib.Dec.{eqb}
 use lib.ListN.{length, drop, replicate}
 use Rattle.refusal.specs.Chain.{require, passed}
@@ -30,6 +30,16 @@ broken (i ∷ is) bytes = require (i .rule (part i bytes)) (refusalAt (i .reason
 unfoldable pub recordRefusal : List ℕ → Option Refusal
 recordRefusal bytes = require (eqb (length bytes) 248) (refusalPlain Size) (broken items bytes)
 
+-- ---- a part of lent bytes
+
+-- where a part lies that begins n bytes on from where the lent bytes begin: in the same block of memory, n further
+abbrev pub bytesOn : ℕ → ℕ × ℕ → ℕ × ℕ
+bytesOn n at = (at .0, n + at .1)
+
 -- the private area: bytes 108 to 248 of 248, or nothing
 unfoldable pub privatePart : List ℕ → List ℕ
 privatePart bytes = cond (eqb (length bytes) 248) (drop 107 bytes) []
+
+-- and how far on it begins; where there is nothing, at the beginning
+unfoldable pub privateStart : List ℕ → ℕ
+privateStart bytes = cond (eqb (length bytes) 248) 107 0

@@ -2,10 +2,10 @@
 // in which every place that isn't read is zero, one item's bytes in it, and the private area as a part of the caller's own bytes.
 ghost use mathlib.Core.Path.{_≡_};
 ghost use lib.ListN.{length};
-ghost use Rattle.record.specs.Record.{recordRefusal, privatePart};
+ghost use Rattle.record.specs.Record.{recordRefusal, bytesOn, privatePart, privateStart};
 ghost use Rattle.refusal.specs.Checked.{checkedOf};
-ghost use Rattle.record.specs.Stored.{itemLent, itemFits, putLeaves, storeRefusal, storeLeaves};
-ghost use Rattle.record.specs.Written.{fits, written};
+ghost use Rattle.record.specs.Stored.{itemLent, itemStart, putRefusal, putLeaves, storeRefusal, storeLeaves};
+ghost use Rattle.record.specs.Written.{writtenRefusal, written};
 use refusal::Checked;
 use refusal::Reason;
 use refusal::then;
@@ -28,24 +28,32 @@ pub fn record_refusal(bytes: &[u8]) -> Checked
     then(sound, rules::sound_byte(next_sound), Reason::Sound, 28)
 }
 
-// Writes the record of 248 bytes over a buffer of 248: true; or leaves it as it was: false.
-pub fn write_record(bytes: &[u8], out: &mut [u8]) -> bool
-    ensures { λ r. ⌜ (r ≡ fits (now (bytes .entry)) (now (out .entry))) × (now (out .exit) ≡ written (now (bytes .entry)) (now (out .entry))) ⌝ }
+// Writes the record of 248 bytes over a buffer of 248. A refusal leaves `out` as it was.
+pub fn write_record(bytes: &[u8], out: &mut [u8]) -> Checked
+    ensures { λ r. ⌜ (r ≡ checkedOf (writtenRefusal (now (bytes .entry)) (length (now (out .entry))))) × (now (out .exit) ≡ written (now (bytes .entry)) (now (out .entry))) ⌝ }
 {
     if bytes.len() != 248 {
-        return false;
+        return Checked::Refused(refusal::plain(Reason::Size));
     }
     if out.len() != 248 {
-        return false;
+        return Checked::Refused(refusal::plain(Reason::Room));
     }
-    let current = rules::picture_clean(&bytes[17..21]);
-    let next = rules::picture_clean(&bytes[21..25]);
+    let current = rules::picture_clean(mode(&bytes[17..21]));
+    let next = rules::picture_clean(mode(&bytes[21..25]));
     let zeros = [0u8; 64];
     copy(out, bytes);
     copy(&mut out[17..21], &current);
     copy(&mut out[21..25], &next);
     copy(&mut out[43..107], &zeros);
-    true
+    Checked::Passed
+}
+
+// The four bytes of a picture mode.
+fn mode(bytes: &[u8]) -> [u8; 4]
+    requires { ⌜ length (now bytes) ≡ 4 ⌝ }
+    ensures { λ r. ⌜ r ≡ now (bytes .entry) ⌝ }
+{
+    [bytes[0], bytes[1], bytes[2], bytes[3]]
 }
 
 // Copies a list over another of its length.
@@ -60,9 +68,9 @@ fn copy(out: &mut [u8], from: &[u8])
     }
 }
 
-// The private area of 248 bytes, as the part of them that it is; of any other number of bytes, an empty part.
+// The private area of 248 bytes, as the part of the caller's own bytes that it is; of any other number of bytes, an empty part.
 pub fn private_part(bytes: &[u8]) -> &[u8]
-    ensures { λ r. ⌜ now r ≡ privatePart (now (bytes .entry)) ⌝ }
+    ensures { λ r. ⌜ (now r ≡ privatePart (now (bytes .entry))) × (r .ptr ≡ bytesOn (privateStart (now (bytes .entry))) (bytes .entry .ptr)) ⌝ }
 {
     if bytes.len() == 248 {
         &bytes[107..248]
@@ -71,41 +79,42 @@ pub fn private_part(bytes: &[u8]) -> &[u8]
     }
 }
 
-// The item's part of 248 bytes; an empty part where there is no such item, or another number of bytes.
+// The item's part of 248 bytes, of the caller's own; an empty part where there is no such item, or another number of bytes.
 pub fn item_part(number: u8, bytes: &[u8]) -> &[u8]
-    ensures { λ r. ⌜ now r ≡ itemLent number (now (bytes .entry)) ⌝ }
+    ensures { λ r. ⌜ (now r ≡ itemLent number (now (bytes .entry))) × (r .ptr ≡ bytesOn (itemStart number (now (bytes .entry))) (bytes .entry .ptr)) ⌝ }
 {
     let place = items::item_place(number);
+    let known = place.checked;
     let first = place.first;
     let length = place.length;
     if bytes.len() != 248 {
         return &bytes[0..0];
     }
-    if first == 0 {
+    if let Checked::Refused(_) = known {
         return &bytes[0..0];
     }
     &bytes[first - 1..first - 1 + length]
 }
 
-// Puts the bytes, as they are, into the item's place in a record of 248 bytes: true. Where there is no such item, or it has another
-// number of bytes, or the record has, the record stays as it was: false.
-pub fn put_item(number: u8, bytes: &[u8], out: &mut [u8]) -> bool
-    ensures { λ r. ⌜ (r ≡ itemFits number (now (bytes .entry)) (now (out .entry))) × (now (out .exit) ≡ putLeaves number (now (bytes .entry)) (now (out .entry))) ⌝ }
+// Puts the bytes, as they are, into the item's place in a record of 248 bytes. A refusal leaves the record as it was.
+pub fn put_item(number: u8, bytes: &[u8], out: &mut [u8]) -> Checked
+    ensures { λ r. ⌜ (r ≡ checkedOf (putRefusal number (now (bytes .entry)) (length (now (out .entry))))) × (now (out .exit) ≡ putLeaves number (now (bytes .entry)) (now (out .entry))) ⌝ }
 {
     let place = items::item_place(number);
+    let known = place.checked;
+    if let Checked::Refused(_) = known {
+        return known;
+    }
     let first = place.first;
     let length = place.length;
-    if first == 0 {
-        return false;
-    }
     if bytes.len() != length {
-        return false;
+        return Checked::Refused(refusal::plain(Reason::Size));
     }
     if out.len() != 248 {
-        return false;
+        return Checked::Refused(refusal::plain(Reason::Room));
     }
     copy(&mut out[first - 1..first - 1 + length], bytes);
-    true
+    Checked::Passed
 }
 
 // Checks the bytes given for an item, and stores them in its place in a record of 248 bytes with every place that isn't read set to
@@ -118,14 +127,9 @@ pub fn store_item(number: u8, bytes: &[u8], out: &mut [u8]) -> Checked
         Checked::Refused(why) => return Checked::Refused(why),
         Checked::Passed => {}
     }
-    if out.len() != 248 {
-        return Checked::Refused(refusal::plain(Reason::Room));
-    }
     if items::is_picture(number) {
-        let mode = rules::picture_clean(bytes);
-        put_item(number, &mode, out);
-        return Checked::Passed;
+        let clean = rules::picture_clean(mode(bytes));
+        return put_item(number, &clean, out);
     }
-    put_item(number, bytes, out);
-    Checked::Passed
+    put_item(number, bytes, out)
 }

@@ -1,2 +1,3 @@
 pub mod Protected
+pub mod Reach
 pub mod Repair

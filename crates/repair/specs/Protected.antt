@@ -1,6 +1,5 @@
 -- The 254 protected words: the words they are rewritten as, how many of them change, and what repair alone is refused for.
 -- Assumes nothing.
-use mathlib.Core.Bool.{cond, _&&_}
 use mathlib.Core.List.{List}
 use mathlib.Core.Option.{Option}
 use Prim.Native.Nat.{ℕ}
@@ -21,9 +20,10 @@ rewritten words = soundWords (repaired (lowBytes words))
 unfoldable pub fixedOf : List ℕ → ℕ
 fixedOf words = changes words (rewritten words)
 
--- of 254 words and 254 bytes, how many words differ, in all ten bits, from the sound words of the bytes; of other numbers of them, 0
-unfoldable pub changedOf : List ℕ → List ℕ → ℕ
-changedOf words bytes = cond (eqb (length words) 254 && eqb (length bytes) 254) (changes words (soundWords bytes)) 0
+-- 21: 254 words against 254 bytes
+unfoldable pub countRefusal : List ℕ → List ℕ → Option Refusal
+countRefusal words bytes =
+    require (eqb (length words) 254) (refusalPlain Size) (require (eqb (length bytes) 254) (refusalPlain Size) passed)
 
 -- repair of words into room for so many: 21, 2, 9, 23
 unfoldable pub repairRefusal : List ℕ → ℕ → Option Refusal

@@ -8,7 +8,9 @@ use Rattle.refusal.specs.Chain.{leftBy}
 use Rattle.refusal.specs.declared.Refusal.{Refusal}
 use Rattle.repair.specs.declared.Repaired.{Repaired}
 use Rattle.repair.specs.declared.Repaired.the-variants.{Fixed, Refused}
-use Rattle.repair.specs.Protected.{rewritten, fixedOf, repairRefusal}
+use Rattle.anc.specs.Words.{soundWords}
+use Rattle.rs.specs.Decode.{changes}
+use Rattle.repair.specs.Protected.{rewritten, fixedOf, countRefusal, repairRefusal}
 
 -- ---- what an answer says, for every case of it
 
@@ -32,6 +34,10 @@ repairedBy (some why) n = Refused why
 -- of words, into room for so many
 unfoldable pub repairedOf : List ℕ → ℕ → Repaired
 repairedOf words room = repairedBy (repairRefusal words room) (fixedOf words)
+
+-- of words against bytes: how many words differ, in all ten bits, from the sound words of the bytes
+unfoldable pub countedOf : List ℕ → List ℕ → Repaired
+countedOf words bytes = repairedBy (countRefusal words bytes) (changes words (soundWords bytes))
 
 -- ---- what is left in the lent buffer
 

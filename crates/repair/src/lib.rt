@@ -1,8 +1,8 @@
 // The repair of a packet's 254 protected words: rewritten as the sound words of the codeword near them, with a count of those that change.
 ghost use mathlib.Core.Path.{_≡_};
 ghost use lib.ListN.{length};
-ghost use Rattle.repair.specs.Protected.{changedOf};
-ghost use Rattle.repair.specs.Repair.{repairedOf, repairLeaves};
+ghost use Rattle.repair.specs.Repair.{repairedOf, countedOf, repairLeaves};
+use refusal::Checked;
 use refusal::Reason;
 
 // What repair answers: how many words' ten bits changed, 0 to 254, or why there is no answer.
@@ -24,26 +24,27 @@ pub fn repair(words: &[u16], out: &mut [u16]) -> Repaired
     }
     let mut bytes = [0u8; 254];
     anc::low_bytes(words, &mut bytes);
-    if !search::repair(&mut bytes) {
-        return Repaired::Refused(refusal::plain(Reason::BeyondRepair));
+    let near = search::repair(&mut bytes);
+    match near {
+        Checked::Refused(why) => return Repaired::Refused(why),
+        Checked::Passed => {}
     }
     if out.len() != 254 {
         return Repaired::Refused(refusal::plain(Reason::Room));
     }
-    let fixed = count_fixed(words, &bytes);
     anc::sound_words(&bytes, out);
-    Repaired::Fixed(fixed)
+    count_fixed(words, &bytes)
 }
 
-// How many of 254 words differ, in all ten bits, from the sound words of 254 bytes; of other numbers of them, 0.
-pub fn count_fixed(words: &[u16], bytes: &[u8]) -> u8
-    ensures { λ r. ⌜ r ≡ changedOf (now (words .entry)) (now (bytes .entry)) ⌝ }
+// How many of 254 words differ, in all ten bits, from the sound words of 254 bytes. Other numbers of them are refused.
+pub fn count_fixed(words: &[u16], bytes: &[u8]) -> Repaired
+    ensures { λ r. ⌜ r ≡ countedOf (now (words .entry)) (now (bytes .entry)) ⌝ }
 {
     if words.len() != 254 {
-        return 0;
+        return Repaired::Refused(refusal::plain(Reason::Size));
     }
     if bytes.len() != 254 {
-        return 0;
+        return Repaired::Refused(refusal::plain(Reason::Size));
     }
     let mut fixed: u8 = 0;
     let mut i = 0;
@@ -53,5 +54,5 @@ pub fn count_fixed(words: &[u16], bytes: &[u8]) -> u8
         }
         i += 1;
     }
-    fixed
+    Repaired::Fixed(fixed)
 }

@@ -1,19 +1,30 @@
 -- What repair gives: the codeword that differs from what was delivered in at most three of the 254 bytes, or none.
 -- Assumes nothing.
+use mathlib.Core.Path.{_≡_}
 use mathlib.Core.Bool.{Bool, true, false, cond, _&&_}
 use mathlib.Core.List.{List, [], _∷_, _++_, map}
 use mathlib.Core.Option.{Option, none, some, Option·getD}
-use Prim.Native.Nat.{ℕ, zero, suc, _+_}
+use Prim.Native.Nat.{ℕ, zero, suc, _+_, _≤_}
 use lib.Dec.{eqb, ltb}
 use lib.ListN.{length, take, drop}
 use Rattle.basics.specs.Each.{all, same}
-use Rattle.rs.specs.Codeword.{parityOf}
+use Rattle.refusal.specs.Chain.{require, next, passed}
+use Rattle.refusal.specs.Number.{refusalPlain}
+use Rattle.refusal.specs.declared.Reason.the-variants.{BeyondRepair}
+use Rattle.refusal.specs.declared.Refusal.{Refusal}
+use Rattle.rs.specs.Codeword.{parityOf, blockRefusal, Codeword}
 
 -- in how many places two lists of one length differ
 unfoldable pub changes : List ℕ → List ℕ → ℕ
 changes [] m = 0
 changes (a ∷ l) [] = 0
 changes (a ∷ l) (b ∷ m) = cond (eqb a b) 0 1 + changes l m
+
+-- c is a codeword within three places of r
+pub record Within (r c : List ℕ) : Type 0 where
+  pub word : Codeword c
+  pub long : length c ≡ length r
+  pub near : changes c r ≤ 3
 
 -- is the number a byte?
 abbrev pub isByte : ℕ → Bool
@@ -56,3 +67,7 @@ repairable delivered = given (decode delivered)
 -- the codeword, or where there is none what was delivered
 unfoldable pub repaired : List ℕ → List ℕ
 repaired delivered = Option·getD (decode delivered) delivered
+
+-- repair of a block of bytes: 21, 9
+unfoldable pub decodeRefusal : List ℕ → Option Refusal
+decodeRefusal block = next (blockRefusal block) (require (repairable block) (refusalPlain BeyondRepair) passed)

@@ -4,7 +4,9 @@
 mod division;
 
 ghost use mathlib.Core.Path.{_≡_};
-ghost use Rattle.rs.specs.Codeword.{divisorBytes, parityOf, leftOf};
+ghost use Rattle.rs.specs.Codeword.{divisorBytes, parityOf, dividedOf};
+use refusal::Checked;
+use refusal::Reason;
 
 // The coefficients of the divisor G, from that of x^5 down; that of x^6 is 1.
 pub fn divisor() -> [u8; 6]
@@ -20,12 +22,24 @@ pub fn parity(bytes: &[u8]) -> [u8; 6]
     division::unpack(division::parity(bytes))
 }
 
-// What the division leaves of a block of 254 bytes: six zeros exactly where it is a codeword. Of another number of bytes, six zeros.
-pub fn remainder(block: &[u8]) -> [u8; 6]
-    ensures { λ r. ⌜ r ≡ leftOf (now (block .entry)) ⌝ }
+// What a division answers: six bytes, zeros where it is refused.
+pub struct Divided {
+    pub checked: Checked,
+    pub left: [u8; 6],
+}
+
+// What the division leaves of a block of 254 bytes: six zeros exactly where it is a codeword. Another number of bytes is refused.
+pub fn remainder(block: &[u8]) -> Divided
+    ensures { λ r. ⌜ r ≡ dividedOf (now (block .entry)) ⌝ }
 {
     if block.len() != 254 {
-        return [0; 6];
+        return Divided {
+            checked: Checked::Refused(refusal::plain(Reason::Size)),
+            left: [0; 6],
+        };
     }
-    division::unpack(division::remainder(block))
+    Divided {
+        checked: Checked::Passed,
+        left: division::unpack(division::remainder(block)),
+    }
 }

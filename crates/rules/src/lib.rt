@@ -2,7 +2,6 @@
 // computed: none of them can fail, and none needs another to pass first. Another number of bytes than the item has keeps no rule.
 ghost use mathlib.Core.Path.{_≡_};
 ghost use mathlib.Core.Bool.{cond, _&&_};
-ghost use mathlib.Core.List.{_∷_, []};
 ghost use Prim.Native.Nat.{_*_, _/_, _%_, _≤_, _<_};
 ghost use lib.Dec.{eqb};
 ghost use lib.ListN.{length};
@@ -104,13 +103,10 @@ fn bit_if(read: bool, weight: u8, b: u8) -> u8
     weight
 }
 
-// The four bytes of a picture mode with every bit that isn't read set to zero; of another number of bytes, those of an unused mode.
-pub fn picture_clean(w: &[u8]) -> [u8; 4]
-    ensures { λ r. ⌜ r ≡ cond (eqb (length (now (w .entry))) 4) (pictureClean (now (w .entry))) (0 ∷ 0 ∷ 0 ∷ 0 ∷ []) ⌝ }
+// The four bytes of a picture mode with every bit that isn't read set to zero.
+pub fn picture_clean(w: [u8; 4]) -> [u8; 4]
+    ensures { λ r. ⌜ r ≡ pictureClean w ⌝ }
 {
-    if w.len() != 4 {
-        return [0, 0, 0, 0];
-    }
     let w0 = w[0];
     if w0 == 0 {
         return [0, 0, 0, 0];

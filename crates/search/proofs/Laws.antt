@@ -6,3 +6,4 @@ pub mod Two
 pub mod Three
 pub mod Held
 pub mod Repair
+pub mod Answer

@@ -1,5 +1,5 @@
-// The search for errors in what was delivered, and exact repair of 254 bytes: it gives the codeword within three bytes of them, and says
-// no exactly when there is none.
+// The search for errors in what was delivered, and exact repair of 254 bytes: it gives the codeword within three bytes of them, and
+// refuses exactly when there is none.
 mod solver;
 
 ghost use mathlib.Core.Path.{_≡_};
@@ -7,22 +7,28 @@ ghost use Prim.Native.Nat.{_<_};
 ghost use lib.ListN.{length};
 ghost use Rattle.rs.specs.Polynomial.{zeros};
 ghost use Rattle.basics.specs.Each.{same};
-ghost use Rattle.rs.specs.Decode.{repairable, repaired};
+ghost use Rattle.rs.specs.Decode.{repairable, repaired, decodeRefusal};
+ghost use Rattle.refusal.specs.Checked.{checkedOf};
 ghost use Rattle.search.specs.Search.{patched, Damaged};
+use refusal::Checked;
+use refusal::Reason;
+use refusal::then;
 
-// Repairs 254 delivered bytes in place: true, and they are the codeword that differs from what was delivered in at most three bytes;
-// or false, and they are as they were, since there is no such codeword. Of any other number of bytes there is none.
-pub fn repair(block: &mut [u8]) -> bool
-    ensures { λ r. ⌜ (r ≡ repairable (now (block .entry))) × (now (block .exit) ≡ repaired (now (block .entry))) ⌝ }
+// Repairs 254 delivered bytes in place: they become the codeword that differs from what was delivered in at most three bytes. A refusal,
+// of another number of bytes or since there is no such codeword, leaves them as they were.
+pub fn repair(block: &mut [u8]) -> Checked
+    ensures { λ r. ⌜ (r ≡ checkedOf (decodeRefusal (now (block .entry)))) × (now (block .exit) ≡ repaired (now (block .entry))) ⌝ }
 {
-    if block.len() != 254 {
-        return false;
+    let divided = rs::remainder(block);
+    let checked = divided.checked;
+    if let Checked::Refused(_) = checked {
+        return checked;
     }
-    let rest = rs::remainder(block);
+    let rest = divided.left;
     if is_zero(rest) {
-        return true;
+        return checked;
     }
-    mend(block, rest)
+    then(checked, mend(block, rest), Reason::BeyondRepair, 0)
 }
 
 // Are the six bytes all 0?

@@ -2,7 +2,12 @@
 // and the bytes before one put back.
 ghost use mathlib.Core.Path.{_≡_};
 ghost use Prim.Native.Nat.{_≤_};
-ghost use Rattle.steps.specs.Steps.{depth, heldOf, stepOf, pushed, countOn, backFrom};
+ghost use lib.ListN.{length};
+ghost use Rattle.refusal.specs.Checked.{checkedOf};
+ghost use Rattle.steps.specs.Steps.{depth, heldOf, keptOf, pushed, countOn, backRefusal, backFrom};
+use refusal::Checked;
+use refusal::Reason;
+use refusal::then;
 
 // One step of the history: the item that was edited and the bytes it had before, with zeros behind them.
 #[repr(C)]
@@ -39,10 +44,19 @@ pub fn count_on(count: u8) -> u8
     Step::DEPTH as u8
 }
 
-// The bytes that an item has in a record of 248, as a step; a step of zeros where there is no such item, or another number of bytes.
-pub fn step_of(item: u8, bytes: &[u8]) -> Step
-    ensures { λ r. ⌜ r ≡ stepOf item (now (bytes .entry)) ⌝ }
+// What keeping an item's bytes answers: a step, of zeros beside a refusal.
+pub struct Kept {
+    pub checked: Checked,
+    pub step: Step,
+}
+
+// The bytes that an item has in a record of 248, as a step.
+pub fn step_of(item: u8, bytes: &[u8]) -> Kept
+    ensures { λ r. ⌜ r ≡ keptOf item (now (bytes .entry)) ⌝ }
 {
+    let place = items::item_place(item);
+    let known = place.checked;
+    let checked = then(known, bytes.len() == 248, Reason::Size, 0);
     let part = record::item_part(item, bytes);
     let mut old = [0u8; Step::ROOM];
     let mut i = 0;
@@ -50,7 +64,10 @@ pub fn step_of(item: u8, bytes: &[u8]) -> Step
         old[i] = part[i];
         i += 1;
     }
-    Step { item, old }
+    Kept {
+        checked,
+        step: Step { item, old },
+    }
 }
 
 // The steps with one more behind the first `count`; the oldest goes where there is no room.
@@ -73,13 +90,13 @@ pub fn push(steps: [Step; Step::DEPTH], count: u8, step: Step) -> [Step; Step::D
     out
 }
 
-// Puts the bytes before a step back into a record of 248; another number of bytes stays as it was.
-pub fn put_back(step: Step, bytes: &mut [u8])
-    ensures { λ r. ⌜ now (bytes .exit) ≡ backFrom step (now (bytes .entry)) ⌝ }
+// Puts the bytes before a step back into a record of 248. A refusal leaves the record as it was.
+pub fn put_back(step: Step, bytes: &mut [u8]) -> Checked
+    ensures { λ r. ⌜ (r ≡ checkedOf (backRefusal step (length (now (bytes .entry))))) × (now (bytes .exit) ≡ backFrom step (now (bytes .entry))) ⌝ }
 {
     let item = step.item;
     let old = step.old;
     let place = items::item_place(item);
     let length = place.length;
-    record::put_item(item, &old[0..length], bytes);
+    record::put_item(item, &old[0..length], bytes)
 }

@@ -1,4 +1,4 @@
--- The view of the record: what its bytes stand for, and the way back from the view to the bytes.
+-- The view of the record: what its bytes stand for, and the way back from the view to the items' bytes in the record.
 -- Assumes nothing.
 use mathlib.Core.Bool.{Bool, cond, _&&_}
 use mathlib.Core.List.{List, [], _∷_, flatten}

@@ -27,3 +27,8 @@ summedWords correction ci bytes = kind ++ headerWord correction ci ∷ protected
 -- the 262 words of a record
 unfoldable pub packetWords : Bool → ℕ → List ℕ → List ℕ
 packetWords correction ci bytes = flag ++ summedWords correction ci bytes ++ checksumOf (summedWords correction ci bytes) ∷ []
+
+-- the same packet with other words in the protected places
+abbrev pub carrying : Bool → ℕ → List ℕ → List ℕ → List ℕ
+carrying correction ci bytes guarded =
+    0x000 ∷ 0x3FF ∷ 0x3FF ∷ 0x25F ∷ 0x1FE ∷ 0x2FF ∷ headerWord correction ci ∷ (guarded ++ checksumOf (summedWords correction ci bytes) ∷ [])

@@ -16,8 +16,12 @@ use Rattle.basics.specs.Below.{Below, Bytes}
 use Rattle.basics.proofs.Laws.Each.{all-append, same-equal, same-other}
 use Rattle.basics.proofs.Laws.Parts.{part-entries}
 use Rattle.basics.proofs.Laws.Test.{both-true, lt-or-le}
+use Rattle.refusal.specs.Checked.{checkedOf}
+use Rattle.refusal.specs.Number.{refusalPlain}
+use Rattle.refusal.specs.declared.Reason.the-variants.{Room}
+use Rattle.refusal.specs.declared.Checked.the-variants.{Passed, Refused}
 use Rattle.anc.specs.Word.{isSound, wordOf}
-use Rattle.anc.specs.Words.{flag, hasFlag, narrow, lowBytes, soundWords, asLong, filledBy}
+use Rattle.anc.specs.Words.{flag, hasFlag, narrow, lowBytes, soundWords, fillRefusal, fillLeaves}
 use Rattle.anc.proofs.Laws.Word.{word-lt, word-low, word-sound}
 
 -- ---- the flag
@@ -140,37 +144,23 @@ pub larger-fits : (a b : ℕ) → a ≤ b → leb b 1023 ≡ (leb a 1023 && leb 
 larger-fits a b h =
     ⊎-elim (λ (l : 1023 < b). rw (lt-leb b 1023 l) (sym (and-false (leb a 1023)))) (λ (l : b ≤ 1023). rw (le-leb a 1023 (omega arith))) (lt-or-le 1023 b)
 
--- ---- a lent buffer that is filled where it has the length of what is read
+-- ---- a lent buffer that is filled where it has room for the new entries
 
-module _ (from new old : List ℕ) (e : length new ≡ length from) where
-  pub left-alone : (length from ≡ length old → ⊥) → (false ≡ asLong from old) × (old ≡ filledBy new old)
-  unfolding filledBy
-  left-alone n = rw (e, ne-eqb (length from) (length old) n) (refl, refl)
+module _ (new old : List ℕ) where
+  pub left-alone : (length new ≡ length old → ⊥) → (Refused (refusalPlain Room) ≡ checkedOf (fillRefusal new (length old))) × (old ≡ fillLeaves new old)
+  unfolding fillRefusal fillLeaves
+  left-alone n = rw (ne-eqb (length new) (length old) n) (refl, refl)
 
-  pub filled-whole : length from ≡ length old → (out : List ℕ) → out ≡ new → (true ≡ asLong from old) × (out ≡ filledBy new old)
-  unfolding filledBy
-  filled-whole h out f = rw (e, eq-eqb (length from) (length old) h) (refl, f)
+  pub filled-whole : length new ≡ length old → (out : List ℕ) → out ≡ new → (Passed ≡ checkedOf (fillRefusal new (length old))) × (out ≡ fillLeaves new old)
+  unfolding fillRefusal fillLeaves
+  filled-whole h out f = rw (eq-eqb (length new) (length old) h) (refl, f)
 
--- where there is room for all
-module _ (out from new old : List ℕ) (e : length new ≡ length from) where
-  filled-new : out ≡ filledBy new old → length from ≡ length old → out ≡ new
-  unfolding filledBy
-  filled-new f h = f ∙ rw (e, eq-eqb (length from) (length old) h)
+  filled : (out : List ℕ) → out ≡ fillLeaves new old → length new ≡ length old → out ≡ new
+  unfolding fillRefusal fillLeaves
+  filled out f h = f ∙ rw (eq-eqb (length new) (length old) h)
 
-pub low-filled : (out words old : List ℕ) → out ≡ filledBy (lowBytes words) old → length words ≡ length old → out ≡ lowBytes words
-low-filled out words old f h = filled-new out words (lowBytes words) old (lowBytes-length words) f h
+pub low-filled : (out words old : List ℕ) → out ≡ fillLeaves (lowBytes words) old → length words ≡ length old → out ≡ lowBytes words
+low-filled out words old f h = filled (lowBytes words) old out f (lowBytes-length words ∙ h)
 
-pub sound-filled : (out bytes old : List ℕ) → out ≡ filledBy (soundWords bytes) old → length bytes ≡ length old → out ≡ soundWords bytes
-sound-filled out bytes old f h = filled-new out bytes (soundWords bytes) old (soundWords-length bytes) f h
-
--- where there is not, what was there stays
-module _ (from new old : List ℕ) (e : length new ≡ length from) where
-  filled-not : asLong from old ≡ false → filledBy new old ≡ old
-  unfolding filledBy
-  filled-not n = rw (e, n)
-
-pub low-kept : (words old : List ℕ) → asLong words old ≡ false → filledBy (lowBytes words) old ≡ old
-low-kept words old n = filled-not words (lowBytes words) old (lowBytes-length words) n
-
-pub sound-kept : (bytes old : List ℕ) → asLong bytes old ≡ false → filledBy (soundWords bytes) old ≡ old
-sound-kept bytes old n = filled-not bytes (soundWords bytes) old (soundWords-length bytes) n
+pub sound-filled : (out bytes old : List ℕ) → out ≡ fillLeaves (soundWords bytes) old → length bytes ≡ length old → out ≡ soundWords bytes
+sound-filled out bytes old f h = filled (soundWords bytes) old out f (soundWords-length bytes ∙ h)

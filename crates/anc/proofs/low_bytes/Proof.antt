@@ -1,6 +1,6 @@
 -- `anc::low_bytes` meets its contract. The loop's invariant: the first `i` places are filled. The measure is what is left of the length.
 -- Assumes nothing.
-use mathlib.Core.Path.{_≡_, _∙_}
+use mathlib.Core.Path.{_≡_, sym, _∙_}
 use mathlib.Core.List.{List}
 use Prim.Native.Nat.{ℕ, _-_}
 use native.Mathlib.Omega.{arith}
@@ -20,22 +20,22 @@ abbrev μ-loop : tie.MeasureT-loop
 
 returns : tie.Need-returns Inv-loop μ-loop
 returns c =
-    let a = c .before .args in
-    left-alone (a .words .now) (lowBytes (a .words .now)) (a .out .now) (lowBytes-length (a .words .now)) (c .if1 .taken)
+    let a = c .before .before .before .before .args in
+    rw (c .plain .ensures) (left-alone (lowBytes (a .words .now)) (a .out .now) (λ e. c .before .if1 .taken (sym (lowBytes-length (a .words .now)) ∙ e)))
 
 -- as many are made as there is room for
 long : (words out : List ℕ) → length words ≡ length out → length (lowBytes words) ≡ length out
 long words out e = lowBytes-length words ∙ e
 
 loop-holds : tie.Need-loop-holds Inv-loop μ-loop
-loop-holds c = let a = c .before .args in filling-none (lowBytes (a .words .now)) (a .out .now) (long (a .words .now) (a .out .now) (c .if1 .left))
+loop-holds c = let a = c .before .before .before .args in filling-none (lowBytes (a .words .now)) (a .out .now) (long (a .words .now) (a .out .now) (c .if1 .left))
 
 loop-again : tie.Need-loop-again Inv-loop μ-loop
 loop-again c =
     let l = c .before .before .loop in
     let e = c .before .before .before in
-    let xs : List ℕ = e .before .args .words .now in
-    let old : List ℕ = e .before .args .out .now in
+    let xs : List ℕ = e .before .before .before .args .words .now in
+    let old : List ℕ = e .before .before .before .args .out .now in
     filling-more (lowBytes xs) old (long xs old (e .if1 .left)) (l .out) (l .i) _ (l .inv) (omega arith) (lowBytes-at xs (l .i) (omega arith))
 
 same-length : tie.Need-same-length Inv-loop μ-loop
@@ -45,9 +45,9 @@ returns-2 : tie.Need-returns-2 Inv-loop μ-loop
 returns-2 c =
     let l = c .before .loop in
     let e = c .before .before in
-    let xs : List ℕ = e .before .args .words .now in
-    let old : List ℕ = e .before .args .out .now in
-    filled-whole xs (lowBytes xs) old (lowBytes-length xs) (e .if1 .left) (l .out)
+    let xs : List ℕ = e .before .before .before .args .words .now in
+    let old : List ℕ = e .before .before .before .args .out .now in
+    filled-whole (lowBytes xs) old (long xs old (e .if1 .left)) (l .out)
     (filling-all (lowBytes xs) old (long xs old (e .if1 .left)) (l .out) (l .i) (l .inv) (omega arith))
 
 pub low-bytes-spec : {M : Type 1} → statement M
@@ -56,6 +56,7 @@ low-bytes-spec =
     (tie.spec
     Inv-loop
     μ-loop
+    (λ c κs. search needs)
     returns
     loop-holds
     (λ c. search needs)

@@ -20,8 +20,8 @@ abbrev μ-loop : tie.MeasureT-loop
 
 returns : tie.Need-returns Inv-loop μ-loop
 returns c =
-    let a = c .before .before .before .args in
-    left-alone (a .bytes .now) (soundWords (a .bytes .now)) (a .out .now) (soundWords-length (a .bytes .now)) (c .if1 .taken)
+    let a = c .before .before .before .before .args in
+    rw (c .plain .ensures) (left-alone (soundWords (a .bytes .now)) (a .out .now) (λ e. c .before .if1 .taken (sym (soundWords-length (a .bytes .now)) ∙ e)))
 
 -- as many are made as there is room for
 long : (bytes out : List ℕ) → length bytes ≡ length out → length (soundWords bytes) ≡ length out
@@ -47,7 +47,7 @@ returns-2 c =
     let e = c .before .before in
     let xs : List ℕ = e .before .before .before .args .bytes .now in
     let old : List ℕ = e .before .before .before .args .out .now in
-    filled-whole xs (soundWords xs) old (soundWords-length xs) (e .if1 .left) (l .out)
+    filled-whole (soundWords xs) old (long xs old (e .if1 .left)) (l .out)
     (filling-all (soundWords xs) old (long xs old (e .if1 .left)) (l .out) (l .i) (l .inv) (omega arith))
 
 pub sound-words-spec : {M : Type 1} → statement M
@@ -56,6 +56,7 @@ sound-words-spec =
     (tie.spec
     Inv-loop
     μ-loop
+    (λ c κs. search needs)
     returns
     loop-holds
     (λ c. search needs)

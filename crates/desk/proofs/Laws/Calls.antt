@@ -4,10 +4,10 @@ use mathlib.Core.Path.{_≡_, refl, sym, ap, _∙_}
 use mathlib.Core.Bool.{Bool}
 use mathlib.Core.List.{List}
 use mathlib.Core.Option.{Option, none, some}
-use Prim.Native.Nat.{ℕ, _+_, _-_, _%_, _<_}
+use Prim.Native.Nat.{ℕ, _%_, _<_}
 use native.Mathlib.Nat.{mod-lt}
 use native.Mathlib.Omega.{arith}
-use lib.ListN.{length, getD}
+use lib.ListN.{length}
 use borrow.Author.Tests.{lt-ltb, ne-eqb, le-leb}
 use Rattle.refusal.specs.Chain.{next}
 use Rattle.refusal.specs.Number.{refusalPlain}
@@ -16,16 +16,18 @@ use Rattle.refusal.specs.declared.Refusal.{Refusal}
 use Rattle.refusal.specs.declared.Checked.{Checked}
 use Rattle.refusal.specs.declared.Checked.the-variants.{Passed, Refused}
 use Rattle.refusal.specs.Checked.{checkedOf}
-use Rattle.record.specs.Record.{broken, recordRefusal}
+use Rattle.record.specs.Record.{broken, recordRefusal, recordOf}
 use Rattle.items.specs.Items.{items}
 use Rattle.items.specs.Item.{itemRefusal, cleanOf, putItem}
 use Rattle.record.specs.Stored.{storeRefusal, storeLeaves}
 use Rattle.refusal.proofs.Laws.Chain.{told}
+use Rattle.writing.specs.Layout.{packetWords}
 use Rattle.writing.specs.Writing.{writeRefusal, writtenWords}
 use Rattle.writing.specs.Written.{writeLeaves}
 use Rattle.record.proofs.Laws.Record.{rules-decide}
 use Rattle.steps.specs.declared.Step.{Step}
-use Rattle.steps.specs.Steps.{heldOf, pushed, countOn, blank, stepOf, backFrom}
+use Rattle.steps.specs.declared.Kept.{Kept}
+use Rattle.steps.specs.Steps.{heldOf, keptOf, pushed, countOn}
 use Rattle.steps.proofs.Laws.History.{held-zero, held-some}
 use Rattle.desk.specs.declared.Desk.{Desk}
 use Rattle.desk.specs.declared.Turn.{Turn}
@@ -59,11 +61,11 @@ module _ (d : Desk) (item : ℕ) (bytes : List ℕ) (said : Checked) (n : length
     unfolding storeLeaves storeRefusal
     store-left = rw (n, told (itemRefusal item bytes) said Passed item-said s)
 
-    pub edit-done : (new : List ℕ) (k c : ℕ) (step : Step) (steps : List Step) → new ≡ storeLeaves item bytes (d .bytes) → k ≡ heldOf (d .count)
-        → step ≡ stepOf item (d .bytes) → steps ≡ pushed (d .steps) k step → c ≡ countOn k
+    pub edit-done : (new : List ℕ) (k c : ℕ) (kept : Kept) (steps : List Step) → new ≡ storeLeaves item bytes (d .bytes) → k ≡ heldOf (d .count)
+        → kept ≡ keptOf item (d .bytes) → steps ≡ pushed (d .steps) k (kept .step) → c ≡ countOn k
         → turn (desk new (d .correction) (d .ci) steps c) said ≡ edited d item bytes
-    unfolding edited
-    edit-done new k c step steps en ek es et ec =
+    unfolding edited keptOf
+    edit-done new k c kept steps en ek es et ec =
         rw (ec, et, es, ek, en, store-left, told (itemRefusal item bytes) said Passed item-said s, s)
 
 -- ---- undo
@@ -73,10 +75,10 @@ module _ (d : Desk) (k : ℕ) (e : k ≡ heldOf (d .count)) where
   unfolding undone undoRefusal
   undo-none why z w = rw (held-zero (d .count) (sym e ∙ z), w)
 
-  pub undo-done : (new : List ℕ) → (k ≡ 0 → ⊥) → new ≡ backFrom (getD (d .steps) (k - 1) blank) (d .bytes)
-      → turn (desk new (d .correction) (d .ci) (d .steps) (k - 1)) Passed ≡ undone d
-  unfolding undone undoRefusal
-  undo-done new f b = simp (lt-ltb 0 (d .count) (held-some (d .count) (λ z. f (e ∙ z)))) (rw (b, e))
+  -- a step is held, so that there is one to undo
+  pub undo-passes : (k ≡ 0 → ⊥) → undoRefusal d ≡ none
+  unfolding undoRefusal
+  undo-passes f = simp (lt-ltb 0 (d .count) (held-some (d .count) (λ z. f (e ∙ z))))
 
 -- ---- send
 
@@ -100,9 +102,14 @@ module _ (d : Desk) (old : List ℕ) (said : Checked) (n : length (d .bytes) ≡
     unfolding sent sendLeaves sendRefusal
     send-room given f g = simp (kept, ne-eqb (length old) 262 f) (rw g (refl, refl))
 
-    pub send-done : (left : List ℕ) → length old ≡ 262 → left ≡ writeLeaves (d .correction) (d .ci % 16) (d .bytes) old
-        → (turn (desk (d .bytes) (d .correction) ((d .ci % 16 + 1) % 16) (d .steps) (d .count)) Passed ≡ sent d (length old)) × (left ≡ sendLeaves d old)
-    unfolding sent sendLeaves sendRefusal writeLeaves writeRefusal writtenWords
-    send-done left m w =
+    -- no rule is broken and there is room
+    pub send-passes : length old ≡ 262 → sendRefusal d (length old) ≡ none
+    unfolding sendRefusal
+    send-passes m = simp (kept, m)
+
+    -- so that the packet of the record is written
+    pub send-writes : length old ≡ 262 → writeLeaves (d .correction) (d .ci % 16) (d .bytes) old ≡ packetWords (d .correction) (d .ci % 16) (recordOf (d .bytes))
+    unfolding writeLeaves writeRefusal writtenWords
+    send-writes m =
         let c : d .ci % 16 < 16 = mod-lt (d .ci) (omega arith) in
-        simp (kept, m) (refl, w ∙ simp (kept, n, m, le-leb (d .ci % 16) 15 (omega arith)))
+        simp (kept, n, m, le-leb (d .ci % 16) 15 (omega arith))

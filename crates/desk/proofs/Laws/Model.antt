@@ -9,7 +9,7 @@ use Prim.Native.Nat.{ℕ, zero, suc, _+_, _-_, _%_, _≤_, _<_}
 use native.Mathlib.Omega.{arith}
 use lib.Dec.{eqb}
 use lib.ListN.{length, take, drop, getD}
-use borrow.Author.Tests.{lt-ltb}
+use borrow.Author.Tests.{lt-ltb, ne-eqb}
 use Rattle.refusal.specs.Chain.{require, passed, leftBy}
 use Rattle.refusal.specs.Number.{refusalPlain}
 use Rattle.refusal.specs.declared.Reason.the-variants.{Room}
@@ -21,7 +21,7 @@ use Rattle.items.specs.Item.{rowOf, put, putIn, itemRefusal, cleanOf, putItem}
 use Rattle.basics.specs.Each.{all}
 use Rattle.basics.specs.Below.{Bytes}
 use Rattle.basics.proofs.Laws.Below.{all-below}
-use Rattle.record.proofs.Laws.Stored.{Clean, clean-long, store-clean}
+use Rattle.record.proofs.Laws.Stored.{CleanRecord, clean-long, store-clean}
 use Rattle.writing.specs.Layout.{packetWords}
 use Rattle.steps.specs.declared.Step.{Step}
 use Rattle.steps.specs.Steps.{depth, heldOf, pushed, countOn, blank, stepOf, backFrom}
@@ -81,10 +81,10 @@ pub record Stands (on : Bool) (d : Desk) (m : Model) : Type 0 where
   pub count : d .count ≡ length (m .earlier)
   pub few : d .count ≤ 32
   pub history : unwound (newest (d .steps) (d .count)) (d .bytes) ≡ m .earlier
-  pub clean : Holds Clean m
+  pub clean : Holds CleanRecord m
 
 -- the opening record is clean
-opening-clean : Clean opening
+opening-clean : CleanRecord opening
 unfolding opening items part cleaned recordOf broken rowOf put putIn putItem stationRule stationByte timeRule timeByte decimal all pictureRule pictureClean soundRule soundByte
 opening-clean = record { long = refl; rules = refl; own = refl }
 
@@ -146,7 +146,7 @@ module _ (on : Bool) (d : Desk) (m : Model) (s : Stands on d m) where
           history = edit-history a;
           clean = record {
             present = store-clean item bytes (m .present) a (s .clean .present);
-            earlier = all-take Clean depth (m .present ∷ m .earlier) (s .clean .present, s .clean .earlier);
+            earlier = all-take CleanRecord depth (m .present ∷ m .earlier) (s .clean .present, s .clean .earlier);
           };
         }
 
@@ -177,7 +177,7 @@ module _ (on : Bool) (d : Desk) (m : Model) (s : Stands on d m) where
     undo-accepted : Stands on (record { bytes = backFrom (getD (d .steps) (d .count - 1) blank) (d .bytes); correction = d .correction; ci = d .ci; steps = d .steps; count = d .count - 1 })
         (record { present = r; earlier = rs; sends = m .sends })
     undo-accepted =
-        let c : All Clean (r ∷ rs) = subst (All Clean) e (s .clean .earlier) in
+        let c : All CleanRecord (r ∷ rs) = subst (All CleanRecord) e (s .clean .earlier) in
         record {
           bytes = ap (λ (l : List (List ℕ)). getD l 0 []) undo-history;
           correction = s .correction;
@@ -232,7 +232,8 @@ module _ (on : Bool) (d : Desk) (m : Model) (s : Stands on d m) where
   unfolding sendLeaves
   sent-words old n =
       let c : d .ci % 16 ≡ m .sends % 16 = omega (arith, s .ci) in
-      rw (send-by-room (length old), n, c, s .correction, s .bytes, s .clean .present .own)
+      let own : recordOf (d .bytes) ≡ m .present = ap recordOf (s .bytes) ∙ s .clean .present .own in
+      rw (send-by-room (length old), n) (λ i. packetWords (s .correction i) (c i) (own i))
 
 -- ---- undo after an edit, and the index
 
@@ -247,13 +248,13 @@ undo-edit on d m s item bytes a =
 -- an undo never moves the index, whatever the desk
 pub undo-index : (d : Desk) → undone d .desk .ci ≡ d .ci
 unfolding undone
-undo-index d = by (undoRefusal d)
+undo-index d = by (undoRefusal d) _ refl
   where
-    by : (o : Option Refusal) → leftBy o (record { bytes = backFrom (getD (d .steps) (heldOf (d .count) - 1) blank) (d .bytes); correction = d .correction; ci = d .ci; steps = d .steps; count = heldOf (d .count) - 1 }) d .ci ≡ d .ci
-    by none = refl
-    by (some why) = refl
+    by : (o : Option Refusal) (new : Desk) → new .ci ≡ d .ci → leftBy o new d .ci ≡ d .ci
+    by none new e = e
+    by (some why) new e = refl
 
--- ---- the number of sends: an edit and an undo leave it, a send into room for its words is one more
+-- ---- the number of sends: an edit and an undo leave it, a send into room for its words is one more, into any other room none
 
 pub edit-sends : (item : ℕ) (bytes : List ℕ) (m : Model) → editM item bytes m .sends ≡ m .sends
 unfolding editM
@@ -271,6 +272,10 @@ undo-sends (r ∷ rs) m = refl
 pub one-sent : (m : Model) → sendM 262 m .sends ≡ m .sends + 1
 unfolding sendM
 one-sent m = refl
+
+pub none-sent : (room : ℕ) (m : Model) → (room ≡ 262 → ⊥) → sendM room m ≡ m
+unfolding sendM
+none-sent room m n = rw (ne-eqb room 262 n)
 
 -- ---- the opening record is bytes
 

@@ -13,7 +13,7 @@ use Rattle.record.specs.Record.{broken}
 use Rattle.items.specs.Items.{items, part}
 use Rattle.items.specs.Item.{rowOf, refusedIn, itemRefusal, placeIn, placeOf, put, cleanIn, cleanOf, partIn, itemPart, putIn, putItem}
 use Rattle.refusal.specs.Checked.{refusalIn}
-use Rattle.record.specs.Stored.{itemLent, fitsIn, itemFits, putLeaves}
+use Rattle.record.specs.Stored.{itemLent, putRefusedIn, putRefusal, putLeaves}
 use Rattle.steps.specs.Steps.{heldOf, pushed, countOn, padded, stepOf, backFrom}
 use Rattle.desk.specs.declared.Desk.{Desk}
 use Rattle.desk.specs.Desk.{opening, noStep, opened, edited, undoRefusal, undone, sendRefusal, sent}
@@ -36,5 +36,5 @@ pub record Values : Type 0 where
   pub count-200 : heldOf 200 ≡ 32
 
 pub values : Values
-unfolding opened opening noStep heldOf padded stepOf pushed countOn backFrom edited undoRefusal undone sendRefusal sent stationRule stationByte timeRule timeByte decimal all oneOf pictureRule pictureClean soundRule soundByte items part broken rowOf refusedIn itemRefusal placeIn placeOf put cleanIn cleanOf partIn itemPart putIn putItem itemLent fitsIn itemFits putLeaves
+unfolding opened opening noStep heldOf padded stepOf pushed countOn backFrom edited undoRefusal undone sendRefusal sent stationRule stationByte timeRule timeByte decimal all oneOf pictureRule pictureClean soundRule soundByte items part broken rowOf refusedIn itemRefusal placeIn placeOf put cleanIn cleanOf partIn itemPart putIn putItem itemLent putRefusedIn putRefusal putLeaves
 values = record { sent-on = refl; put-back = refl; step-gone = refl; none-left = refl; sound-0x1B = refl; count-200 = refl }

@@ -13,7 +13,7 @@ use Rattle.sequence.specs.declared.Kind.{Kind}
 use Rattle.sequence.specs.declared.Kind.the-variants.{First, Next, Repeat, Conflict}
 use Rattle.sequence.specs.Sequence.{stepOf, kindOf, missedOf, repeatsIn, conflictsIn}
 use Rattle.sequence.specs.Onsets.{onsetsAfter}
-use Rattle.sequence.proofs.Laws.Sequence.{step-same, step-on, further}
+use Rattle.sequence.proofs.Laws.Sequence.{step-same, step-on, missed-true, further}
 use Rattle.reading.specs.declared.Packet.{Packet}
 use Rattle.reading.specs.Reading.{indexOf, readFixed, readRefusal, readRecord}
 use Rattle.reading.specs.Answer.{packetOf}
@@ -30,6 +30,15 @@ use Rattle.follower.proofs.Laws.Count.{counted-le}
 pub refused-alone : (f : Follower) (ws : List ℕ) (why : Refusal) → readRefusal ws ≡ some why → followed f ws ≡ record { follower = refusedAfter f; heard = Refused why }
 unfolding followed refuses
 refused-alone f ws why e = ap (λ (o : Option Refusal). followedBy o f (packetOf ws) (readRecord ws)) e
+
+-- the refusal that is heard is the one that the rules give
+pub refusal-heard : (f : Follower) (ws : List ℕ) → refusalIn (followed f ws .heard) ≡ readRefusal ws
+unfolding followed refuses accepts
+refusal-heard f ws = by (readRefusal ws)
+  where
+    by : (o : Option Refusal) → refusalIn (followedBy o f (packetOf ws) (readRecord ws) .heard) ≡ o
+    by none = refl
+    by (some why) = refl
 
 -- where the answer tells a refusal, that is so
 pub refused-said : (f : Follower) (ws : List ℕ) (why : Refusal) → refusalIn (followed f ws .heard) ≡ some why → followed f ws .follower ≡ refusedAfter f
@@ -118,7 +127,7 @@ module _ (f : Follower) (ws : List ℕ) (ok : readRefusal ws ≡ none) where
     pub next-kind : (m : ℕ) → m ≤ 14 → indexOf ws ≡ (f .ci + 1 + m) % 16 → Arrived f ws Next m
     next-kind m l e =
         let d : stepOf (f .ci) (indexOf ws) ≡ suc m = ap (stepOf (f .ci)) e ∙ step-on (f .ci) m h l in
-        arrived Next m (rw (s, d) (further m _)) (omega arith)
+        arrived Next m (rw (s, d) (further m _)) (ap (λ (i : ℕ). missedOf Next (stepOf (f .ci) i)) e ∙ missed-true (f .ci) m h l)
 
 -- ---- no count passes the ceiling
 

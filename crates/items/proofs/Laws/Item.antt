@@ -1,8 +1,9 @@
 -- One item by its number: which numbers have a row, what a row without a rule says, and the checks of an item's bytes.
 -- Assumes nothing.
-use mathlib.Core.Path.{_≡_, refl, ap, _∙_}
+use mathlib.Core.Path.{_≡_, refl, sym, ap, _∙_}
 use mathlib.Core.Bool.{Bool, true, false, cond, _&&_}
 use mathlib.Core.List.{List, [], _∷_}
+use mathlib.Core.Logic.{⊎-elim}
 use mathlib.Core.Option.{Option, none, some}
 use Prim.Native.Nat.{ℕ, zero, suc, _<_, _≤_}
 use native.Mathlib.Omega.{arith}
@@ -12,9 +13,13 @@ use borrow.Author.Tests.{ne-eqb}
 use Rattle.refusal.specs.Chain.{require, passed}
 use Rattle.refusal.specs.Number.{refusalAt, refusalPlain}
 use Rattle.refusal.specs.declared.Reason.the-variants.{Item, Size}
+use Rattle.refusal.specs.declared.Refusal.{Refusal}
+use Rattle.refusal.specs.declared.Checked.the-variants.{Passed, Refused}
+use Rattle.refusal.specs.Checked.{checkedOf}
+use Rattle.items.specs.declared.ItemPlace.{ItemPlace}
 use Rattle.items.specs.Items.{Row, free, items}
 use Rattle.items.specs.Item.{rowOf, refusedIn, itemRefusal, placeIn, placeOf, ruleIn, ruleOf, reasonIn, reasonOf}
-use Rattle.basics.proofs.Laws.Test.{below, below-at, both-left, both-right}
+use Rattle.basics.proofs.Laws.Test.{below, below-at, both-left, both-right, lt-or-le}
 
 -- ---- the numbers that have a row
 
@@ -102,6 +107,20 @@ module _ (n : ℕ) (h : n < 13) where
   pub first-lt : placeOf n .first < 256
   first-lt = ltb→lt (placeOf n .first) 256 (both-right (eqb (getD lengths n 0) (placeOf n .length)) _ rest-stands)
 
+pub place-lt : (n : ℕ) → placeOf n .first < 256
+unfolding placeOf placeIn
+place-lt n = ⊎-elim (λ h. first-lt n h) (λ h. rw (row-none n (omega arith)) (omega arith)) (lt-or-le n 13)
+
+-- an item that is there is not refused
+known-passed : (o : Option Row) → T (known o) → Passed ≡ placeIn o .checked
+unfolding known placeIn
+known-passed none t = absurd t
+known-passed (some i) t = refl
+
+pub place-known : (n : ℕ) → 0 < n → n ≤ 12 → Passed ≡ placeOf n .checked
+unfolding placeOf
+place-known n p h = known-passed (rowOf n items) (row-known n p h)
+
 -- as long as the item of a number that is known
 pub long-at : {n k l : ℕ} → l ≡ placeOf n .length → n ≡ k → l ≡ placeOf k .length
 long-at e same = e ∙ ap (λ (m : ℕ). placeOf m .length) same
@@ -112,17 +131,26 @@ pub row-zero : rowOf 0 items ≡ none
 unfolding rowOf items
 row-zero = refl
 
-pub item-none : (n : ℕ) (bytes : List ℕ) → rowOf n items ≡ none → itemRefusal n bytes ≡ some (refusalPlain Item)
-unfolding itemRefusal refusedIn
-item-none n bytes e = rw e
+-- no such item
+unplaced : (bytes : List ℕ) (o : Option Row) (why : Refusal) → placeIn o .checked ≡ Refused why → placeIn o .checked ≡ checkedOf (refusedIn bytes o)
+unfolding placeIn refusedIn
+unplaced bytes none why e = refl
+unplaced bytes (some i) why e = let z : _≡_ {A = ℕ} 0 1 = cc in absurd (omega arith)
 
-known-checks : (bytes : List ℕ) (o : Option Row) → T (known o)
+pub place-refused : (n : ℕ) (bytes : List ℕ) (p : ItemPlace) (why : Refusal) → p ≡ placeOf n → p .checked ≡ Refused why → p .checked ≡ checkedOf (itemRefusal n bytes)
+unfolding itemRefusal placeOf
+place-refused n bytes p why e r =
+    let c : p .checked ≡ placeOf n .checked = ap (λ (x : ItemPlace). x .checked) e in
+    c ∙ unplaced bytes (rowOf n items) why (sym c ∙ r)
+
+-- the checks of one that is there
+placed : (bytes : List ℕ) (o : Option Row) → placeIn o .checked ≡ Passed
     → refusedIn bytes o ≡ require (eqb (length bytes) (placeIn o .length)) (refusalPlain Size) (require (ruleIn bytes o) (refusalAt (reasonIn o) (placeIn o .first)) passed)
-unfolding known refusedIn placeIn ruleIn reasonIn
-known-checks bytes none t = absurd t
-known-checks bytes (some i) t = refl
+unfolding refusedIn placeIn ruleIn reasonIn
+placed bytes none e = let z : _≡_ {A = ℕ} 0 1 = cc in absurd (omega arith)
+placed bytes (some i) e = refl
 
-pub item-checks : (n : ℕ) (bytes : List ℕ) → 0 < n → n ≤ 12
-    → itemRefusal n bytes ≡ require (eqb (length bytes) (placeOf n .length)) (refusalPlain Size) (require (ruleOf n bytes) (refusalAt (reasonOf n) (placeOf n .first)) passed)
+pub item-checks : (n : ℕ) (bytes : List ℕ) (p : ItemPlace) → p ≡ placeOf n → p .checked ≡ Passed
+    → itemRefusal n bytes ≡ require (eqb (length bytes) (p .length)) (refusalPlain Size) (require (ruleOf n bytes) (refusalAt (reasonOf n) (p .first)) passed)
 unfolding itemRefusal placeOf ruleOf reasonOf
-item-checks n bytes p h = known-checks bytes (rowOf n items) (row-known n p h)
+item-checks n bytes p e c = rw e (placed bytes (rowOf n items) (sym (ap (λ (x : ItemPlace). x .checked) e) ∙ c))

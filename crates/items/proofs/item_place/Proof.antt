@@ -2,20 +2,36 @@
 -- Assumes nothing.
 use Prim.Native.Nat.{_<_}
 use native.Mathlib.Omega.{arith}
-use Rattle.items.specs.Item.{placeIn, placeOf}
-use Rattle.items.proofs.Laws.Item.{row-none, first-at, length-at}
+use Rattle.items.specs.Item.{placeOf}
+use Rattle.items.proofs.Laws.Item.{row-zero, row-none, place-known, first-at, length-at}
 use borrow.Author.Needs.{needs}
 use Rattle.items.proofs.item_place.Statement.{statement}
 use Rattle.items.proofs.item_place.Tie as tie
 
 returns : tie.Need-returns
-unfolding placeOf placeIn
-returns c = rw (row-none _ (c .if1 .taken))
+unfolding placeOf
+returns c = rw (c .no-item .ensures, c .before .if1 .taken, row-zero)
 
 returns-2 : tie.Need-returns-2
-returns-2 c =
-    let h : c .before .args .number < 13 = omega arith in
-    λ i. record { first = first-at (c .before .args .number) h i; length = length-at (c .before .args .number) h i }
+unfolding placeOf
+returns-2 c = rw (c .no-item2 .ensures, row-none _ (c .before .if2 .taken))
+
+returns-3 : tie.Need-returns-3
+returns-3 c =
+    let n = c .before .before .args .number in
+    let h : n < 13 = omega arith in
+    λ i. record { checked = place-known n (omega arith) (omega arith) i; first = first-at n h i; length = length-at n h i }
 
 pub item-place-spec : {M : Type 1} → statement M
-item-place-spec = tie.close (tie.spec returns (λ c. search needs) (λ c. search needs) (λ c. search needs) (λ c. search needs) returns-2)
+item-place-spec =
+    tie.close
+    (tie.spec
+    (λ c κs. search needs)
+    returns
+    (λ c κs. search needs)
+    returns-2
+    (λ c. search needs)
+    (λ c. search needs)
+    (λ c. search needs)
+    (λ c. search needs)
+    returns-3)

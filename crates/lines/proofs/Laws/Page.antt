@@ -10,7 +10,7 @@ use borrow.Author.Tests.{lt-ltb, le-ltb}
 use lib.ListN.{length, getD, take, drop, length-drop, length-set, drop-of-length-le}
 use lib.Seq.{drop-cons, take-all}
 use Rattle.basics.proofs.Laws.Test.{lt-or-le}
-use Rattle.lines.specs.Text.{digit, leading, decimal, hexByte, hexBytes, blank, pushed, written}
+use Rattle.lines.specs.Text.{digit, leading, decimal, hexByte, hexBytes, places, blank, pushed, written}
 use Rattle.lines.specs.declared.page.Page.{Page}
 
 -- one text behind another
@@ -50,18 +50,18 @@ decimal-part n k a b c d e ek ea eb ec ed ee h =
 -- ---- what is written lies within the places
 
 pub record Sized (p : Page) : Type 0 where
-  pub places : length (p .bytes) ≡ 256
-  pub within : p .length ≤ 256
+  pub long : length (p .bytes) ≡ places
+  pub within : p .length ≤ places
 
 pub blank-sized : Sized blank
 unfolding blank
-blank-sized = record { places = refl; within = omega arith }
+blank-sized = record { long = refl; within = omega arith }
 
-push-sized : (p : Page) (c : ℕ) → Sized p → Sized (pushed p c)
+pub push-sized : (p : Page) (c : ℕ) → Sized p → Sized (pushed p c)
 unfolding pushed
 push-sized p c s =
-    ⊎-elim (λ h. rw (lt-ltb (p .length) 256 h) (record { places = length-set (p .bytes) (p .length) c ∙ s .places; within = omega arith }))
-    (λ h. rw (le-ltb (p .length) 256 h) s) (lt-or-le (p .length) 256)
+    ⊎-elim (λ h. rw (lt-ltb (p .length) places h) (record { long = length-set (p .bytes) (p .length) c ∙ s .long; within = omega arith }))
+    (λ h. rw (le-ltb (p .length) places h) s) (lt-or-le (p .length) places)
 
 pub written-sized : (p : Page) (text : List ℕ) → Sized p → Sized (written p text)
 unfolding written

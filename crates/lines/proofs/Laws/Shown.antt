@@ -20,7 +20,7 @@ use Rattle.b40.specs.declared.Unpacked.the-variants.{Done, Refused as NotDone}
 use Rattle.b40.specs.Field.{wordsOf}
 use Rattle.b40.specs.Unpacking.{unpackRefusal, headOf, unpackedBy, unpackedOf, unpackLeaves}
 use lib.ListN.{length}
-use Rattle.lines.specs.Text.{decimal, hexBytes, blank, written}
+use Rattle.lines.specs.Text.{decimal, hexBytes, places, blank, written}
 use Rattle.lines.specs.Shown.{space, newline, refusedWord, threeLine, refusedLine, fieldLine, packetLine, itemLine, itemLines, packetLines, fieldLines, shown}
 use Rattle.lines.specs.declared.page.Page.{Page}
 use Rattle.lines.proofs.Laws.Page.{written-append, Sized, blank-sized, written-sized}
@@ -98,6 +98,6 @@ module _ (field old : List ℕ) (u : Unpacked) (n : length old ≡ 262) (eu : u 
   unfolding shown fieldLines
   field-refused why p e ep = rw (refused-by (unpackRefusal field 262) (headOf field) why (unpack-told ∙ e)) ep
 
-pub shown-sized : (field : List ℕ) (p : Page) → p ≡ shown field → (p ≡ shown field) × (length (p .bytes) ≡ 256) × (p .length ≤ 256)
+pub shown-sized : (field : List ℕ) (p : Page) → p ≡ shown field → (p ≡ shown field) × (length (p .bytes) ≡ places) × (p .length ≤ places)
 unfolding shown
-shown-sized field p e = let s : Sized p = rw e (written-sized blank (fieldLines field) blank-sized) in (e, s .places, s .within)
+shown-sized field p e = let s : Sized p = rw e (written-sized blank (fieldLines field) blank-sized) in (e, s .long, s .within)

@@ -6,7 +6,7 @@ use Rattle.lines.proofs.write_item.Statement.{statement}
 use Rattle.lines.proofs.write_item.Tie as tie
 
 returns : tie.Need-returns
-returns c = item-parts _ _ _ _ _ _ _ (c .before .before .before .before .write-number .ensures) (c .before .before .before .item-part .ensures) (c .before .before .write-bytes .ensures) (c .write .ensures)
+returns c = item-parts _ _ _ _ _ _ _ (c .before .before .before .before .write-number .ensures) (c .before .before .before .item-part .ensures .0) (c .before .before .write-bytes .ensures) (c .write .ensures)
 
 pub write-item-spec : {M : Type 1} → statement M
 write-item-spec =

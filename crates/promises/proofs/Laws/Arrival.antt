@@ -9,12 +9,11 @@ use lib.ListN.{length, take, drop}
 use lib.Seq.{take-at, drop-at}
 use Rattle.basics.specs.Below.{Bytes}
 use Rattle.rs.specs.Decode.{changes}
-use Rattle.record.specs.Record.{recordOf}
-use Rattle.record.proofs.Laws.Stored.{Clean}
+use Rattle.record.proofs.Laws.Stored.{CleanRecord}
 use Rattle.anc.specs.Words.{narrow}
-use Rattle.writing.specs.Layout.{headerWord, protectedWords, packetWords}
-use Rattle.reading.specs.Reading.{protectedOf, indexOf, readRefusal, readBytes, readRecord}
-use Rattle.writing.proofs.Laws.Layout.{carrying, packet-carries, length-protected, protected-narrow}
+use Rattle.writing.specs.Layout.{headerWord, protectedWords, packetWords, carrying}
+use Rattle.reading.specs.Reading.{protectedOf, indexOf, readRefusal, readRecord}
+use Rattle.writing.proofs.Laws.Layout.{packet-carries, length-protected, protected-narrow}
 use Rattle.reading.proofs.Laws.RoundTrip.{damaged-reads}
 use Rattle.promises.specs.Line.{Delivers}
 
@@ -24,7 +23,7 @@ pub record Arrives (arrived : List ℕ) (ci : ℕ) (r : List ℕ) : Type 0 where
   pub index : indexOf arrived ≡ ci
   pub bytes : readRecord arrived ≡ r
 
-module _ (ci : ℕ) (r : List ℕ) (hc : ci ≤ 15) (c : Clean r) (b : Bytes r) where
+module _ (ci : ℕ) (r : List ℕ) (hc : ci ≤ 15) (c : CleanRecord r) (b : Bytes r) where
   abbrev sent : List ℕ
   sent = packetWords true ci r
 
@@ -52,7 +51,6 @@ module _ (ci : ℕ) (r : List ℕ) (hc : ci ≤ 15) (c : Clean r) (b : Bytes r) 
   sent-narrow = ap narrow sent-protected ∙ protected-narrow true r b
 
   pub arrives : (arrived : List ℕ) → Delivers sent arrived → Arrives arrived ci r
-  unfolding readRecord
   arrives arrived D =
       let q : List ℕ = D .protected in
       let few : changes q guarded ≤ 3 = subst (λ (l : List ℕ). changes q l ≤ 3) sent-protected (D .few) in
@@ -61,5 +59,5 @@ module _ (ci : ℕ) (r : List ℕ) (hc : ci ≤ 15) (c : Clean r) (b : Bytes r) 
       record {
         accepted = ap readRefusal e ∙ R .accepted;
         index = ap indexOf e ∙ R .index;
-        bytes = ap (λ (l : List ℕ). recordOf (readBytes l)) e ∙ ap recordOf (R .bytes) ∙ c .own;
+        bytes = ap readRecord e ∙ R .rec ∙ c .own;
       }

@@ -11,7 +11,9 @@ use Rattle.desk.specs.Desk.{opened, edited, undone, sent, sendLeaves}
 use Rattle.follower.specs.declared.Follower.{Follower}
 use Rattle.follower.specs.declared.Followed.{Followed}
 use Rattle.follower.specs.Follower.{followed, opened as begun}
-use Rattle.promises.specs.Calls.{Opens, Edits, Undoes, Sends, Begins, Follows}
+use Rattle.lines.specs.declared.page.Page.{Page}
+use Rattle.lines.specs.Shown.{shown}
+use Rattle.promises.specs.Calls.{Opens, Edits, Undoes, Sends, Begins, Follows, Shows}
 
 pub opens-is : (on : Bool) (d : Desk) → Opens on d → d ≡ opened on
 opens-is on d O = O .allowed ∙ ap opened (O .correction)
@@ -33,3 +35,6 @@ begins-is f B = B .allowed
 
 pub follows-is : (f : Follower) (ws : List ℕ) (a : Followed) → Follows f ws a → a ≡ followed f ws
 follows-is f ws a F = F .allowed ∙ ap₂ followed (F .own) (F .lent)
+
+pub shows-is : (field : List ℕ) (page : Page) → Shows field page → page ≡ shown field
+shows-is field page S = S .allowed .0 ∙ ap shown (S .lent)

@@ -6,17 +6,22 @@ use mathlib.Core.List.{List}
 use mathlib.Core.Option.{none}
 use Prim.Native.Nat.{ℕ, _+_, _%_, _≤_}
 use native.Mathlib.Omega.{arith}
+use borrow.Author.Tests.{ne-eqb}
 use lib.ListN.{length}
 use Rattle.basics.proofs.Laws.Test.{never}
+use Rattle.refusal.specs.Number.{refusalPlain}
+use Rattle.refusal.specs.declared.Reason.the-variants.{Room}
+use Rattle.refusal.specs.declared.Checked.the-variants.{Refused}
 use Rattle.basics.specs.Below.{Bytes}
-use Rattle.record.proofs.Laws.Stored.{Clean}
+use Rattle.record.proofs.Laws.Stored.{CleanRecord}
 use Rattle.writing.specs.Layout.{packetWords}
 use Rattle.anc.specs.Words.{narrow}
 use Rattle.reading.specs.Reading.{indexOf, protectedOf}
 use Rattle.desk.specs.declared.Desk.{Desk}
 use Rattle.desk.specs.declared.Turn.{Turn}
+use Rattle.desk.specs.Desk.{sent as sent-turn}
 use Rattle.desk.specs.Model.{Model, sendM}
-use Rattle.desk.proofs.Laws.Model.{edit-sends, undo-sends, one-sent}
+use Rattle.desk.proofs.Laws.Model.{edit-sends, undo-sends, one-sent, none-sent, send-by-room}
 use Rattle.sequence.specs.declared.Kind.{Kind}
 use Rattle.sequence.specs.declared.Kind.the-variants.{First, Next, Repeat}
 use Rattle.sequence.specs.Sequence.{repeatsIn}
@@ -28,9 +33,9 @@ use Rattle.follower.proofs.Laws.Count.{counted-none, counted-again}
 use Rattle.follower.proofs.Laws.Follow.{accepted-holds, Arrived, first-kind, next-kind, repeat-kind}
 use Rattle.promises.specs.Calls.{Opens, Sends, Begins, Follows}
 use Rattle.promises.specs.History.{Turns, edits, undoes, History, opens, turns, sends}
-use Rattle.promises.specs.Line.{Delivers, Fate, unsent, waiting, dropped, delivered, Scene, opening, turned, sent, lost, heard, Line, opens, turns, sends, drops, delivers, repeats, Agrees}
+use Rattle.promises.specs.Line.{Delivers, Fate, unsent, waiting, dropped, delivered, Scene, opening, turned, sent, lost, heard, Line, opens, turns, sends, no-room, drops, delivers, repeats, Agrees}
 use Rattle.promises.proofs.Laws.Arrival.{Arrives, sent-long, sent-narrow, arrives}
-use Rattle.promises.proofs.Laws.Calls.{begins-is, follows-is}
+use Rattle.promises.proofs.Laws.Calls.{sends-is, begins-is, follows-is}
 use Rattle.promises.proofs.Laws.History.{stands, sent-is, history-bytes}
 
 -- ---- what is so on every line
@@ -40,7 +45,7 @@ record OnLine (s : Scene) : Type 0 where
   number : ℕ
   sends : s .history .sends ≡ number + 1
   words : s .words ≡ packetWords true (number % 16) (s .bytes)
-  clean : Clean (s .bytes)
+  clean : CleanRecord (s .bytes)
   small : Bytes (s .bytes)
 
 -- once it was delivered the follower holds its record
@@ -88,7 +93,7 @@ record Known (s : Scene) : Type 0 where
   before : s .begun ≡ false → Before s
   after : s .begun ≡ true → After s
 
--- ---- opening, edits and undos
+-- ---- opening
 
 open-known : (d : Desk) (f : Follower) → Opens true d → Begins f → Known (opening d f)
 open-known d f O B =
@@ -99,15 +104,18 @@ open-known d f O B =
       after = λ e. never (sym e);
     }
 
+-- ---- an edit, an undo, a send that is refused for its room
+
 -- an edit or an undo sends nothing
 turn-sends : (d : Desk) (m : Model) (d′ : Desk) (m′ : Model) → Turns d m d′ m′ → m′ .sends ≡ m .sends
 turn-sends d m d′ m′ (edits {item = item} {bytes = bytes} E) = edit-sends item bytes m
 turn-sends d m d′ m′ (undoes U) = undo-sends (m .earlier) m
 
-module _ (s : Scene) (K : Known s) (d : Desk) (m : Model) (T : Turns (s .desk) (s .history) d m) where
-  same-sends : m .sends ≡ s .history .sends
-  same-sends = turn-sends (s .desk) (s .history) d m T
+-- nor does a send into room for another number of words
+no-room-history : (d : Desk) (m : Model) (old : List ℕ) (t : Turn) (left : List ℕ) → History true d m → (length old ≡ 262 → ⊥) → Sends d old t left → History true (t .desk) m
+no-room-history d m old t left H n S = subst (History true (t .desk)) (none-sent (length old) m n) (sends H S)
 
+module _ (s : Scene) (K : Known s) (d : Desk) (m : Model) (H : History true d m) (same-sends : m .sends ≡ s .history .sends) where
   turned-line : OnLine s → OnLine (turned s d m)
   turned-line L = record { number = L .number; sends = same-sends ∙ L .sends; words = L .words; clean = L .clean; small = L .small }
 
@@ -120,7 +128,7 @@ module _ (s : Scene) (K : Known s) (d : Desk) (m : Model) (T : Turns (s .desk) (
   turned-known : Known (turned s d m)
   turned-known =
       record {
-        desk = turns (K .desk) T;
+        desk = H;
         fared = turned-fared (s .fate) (K .fared);
         before = λ e. let B = K .before e in record { follower = B .follower; missed = B .missed; repeated = B .repeated };
         after = λ e.
@@ -301,13 +309,23 @@ delivered-known s K arrived a w few D F = by (s .begun) refl
 
 known : (s : Scene) → Line s → Known s
 known s (opens {d = d} {f = f} O B) = open-known d f O B
-known s (turns {s = s₀} {d = d} {m = m} l T) = turned-known s₀ (known s₀ l) d m T
+known s (turns {s = s₀} {d = d} {m = m} l T) = turned-known s₀ (known s₀ l) d m (turns (known s₀ l .desk) T) (turn-sends (s₀ .desk) (s₀ .history) d m T)
 known s (sends {s = s₀} {old = old} {answer = t} {left = left} l free n S) = sent-known s₀ (known s₀ l) free old t left n S
+known s (no-room {s = s₀} {old = old} {answer = t} {left = left} l n S) =
+    turned-known s₀ (known s₀ l) (t .desk) (s₀ .history) (no-room-history (s₀ .desk) (s₀ .history) old t left (known s₀ l .desk) n S) refl
 known s (drops {s = s₀} l w) = lost-known s₀ (known s₀ l) w
 known s (delivers {s = s₀} {arrived = arrived} {answer = a} l w few D F) = delivered-known s₀ (known s₀ l) arrived a w few D F
 known s (repeats {s = s₀} {before = h} {arrived = arrived} {answer = a} l w D F) =
     let X : Delivered s₀ h = subst (Fared s₀) w (known s₀ l .fared) in
     again-known s₀ (known s₀ l) (X .line) arrived D a F h w X
+
+-- a send into a buffer of another length is refused, on every line
+pub no-room-refused : (s : Scene) → Line s → (old : List ℕ) (t : Turn) (left : List ℕ) → Sends (s .desk) old t left → (length old ≡ 262 → ⊥)
+    → t .checked ≡ Refused (refusalPlain Room)
+unfolding sent-turn
+no-room-refused s l old t left S n =
+    let stood = stands true (s .desk) (s .history) (known s l .desk) in
+    ap (λ (x : Turn). x .checked) (sends-is (s .desk) old t left S) ∙ rw (send-by-room true (s .desk) (s .history) stood (length old), ne-eqb (length old) 262 n)
 
 -- the packet that waits on a line, or was delivered, has 254 protected words of ten bits each
 pub record Ordinary (words : List ℕ) : Type 0 where

@@ -1,8 +1,8 @@
 -- Each call's answer is the only one that its contract allows, and so is what it leaves in a buffer that it was lent. `Learnt` is the
 -- contract as its caller may use it.
 -- Assumes nothing.
-use mathlib.Core.Path.{refl, sym, _∙_}
-use denote.Ref.{now}
+use mathlib.Core.Path.{sym, _∙_}
+use denote.Ref.{now, ptr}
 use Rattle.promises.specs.Only.{OneAnswer, OnePart, OneOutcome}
 use Rattle.gf256.proofs.Laws.Tables.{powers-unique, logs-unique}
 use Rattle.gf256.proofs.Laws.Lent.{wheel-unique}
@@ -276,7 +276,7 @@ time κs i a b s t p q = p ∙ sym q
 pub picture : OneAnswer 1 picture-types.ps picture-types.r picture-contract.Learnt
 picture κs i a b s t p q = p ∙ sym q
 
-pub picture-clean : OneAnswer 1 picture-clean-types.ps picture-clean-types.r picture-clean-contract.Learnt
+pub picture-clean : OneAnswer 0 picture-clean-types.ps picture-clean-types.r picture-clean-contract.Learnt
 picture-clean κs i a b s t p q = p ∙ sym q
 
 pub sound-byte : OneAnswer 0 sound-byte-types.ps sound-byte-types.r sound-byte-contract.Learnt
@@ -301,11 +301,11 @@ record-refusal κs i a b s t p q = p ∙ sym q
 pub write-record : OneOutcome 2 write-record-types.ps write-record-types.r (λ κs s. now (s .1 .0)) write-record-contract.Learnt
 write-record κs i a b s t p q = (p .0 ∙ sym (q .0), p .1 ∙ sym (q .1))
 
-pub private-part : OnePart 1 private-part-types.ps private-part-types.r (λ κs a. now a) private-part-contract.Learnt
-private-part κs i a b s t p q = p ∙ sym q
+pub private-part : OnePart 1 private-part-types.ps private-part-types.r (λ κs a. now a) (λ κs a. ptr a) private-part-contract.Learnt
+private-part κs i a b s t p q = (p .0 ∙ sym (q .0), p .1 ∙ sym (q .1))
 
-pub item-part : OnePart 1 item-part-types.ps item-part-types.r (λ κs a. now a) item-part-contract.Learnt
-item-part κs i a b s t p q = p ∙ sym q
+pub item-part : OnePart 1 item-part-types.ps item-part-types.r (λ κs a. now a) (λ κs a. ptr a) item-part-contract.Learnt
+item-part κs i a b s t p q = (p .0 ∙ sym (q .0), p .1 ∙ sym (q .1))
 
 pub put-item : OneOutcome 2 put-item-types.ps put-item-types.r (λ κs s. now (s .1 .1 .0)) put-item-contract.Learnt
 put-item κs i a b s t p q = (p .0 ∙ sym (q .0), p .1 ∙ sym (q .1))
@@ -350,7 +350,7 @@ pub push : OneAnswer 0 push-types.ps push-types.r push-contract.Learnt
 push κs i a b s t p q = p ∙ sym q
 
 pub put-back : OneOutcome 1 put-back-types.ps put-back-types.r (λ κs s. now (s .1 .0)) put-back-contract.Learnt
-put-back κs i a b s t p q = (refl, p ∙ sym q)
+put-back κs i a b s t p q = (p .0 ∙ sym (q .0), p .1 ∙ sym (q .1))
 
 -- ---- desk
 

@@ -2,23 +2,24 @@
 -- changes in its count of refusals only.
 -- Assumes nothing.
 use mathlib.Core.Path.{_≡_, refl, sym, ap, _∙_}
-use mathlib.Core.Bool.{false}
 use mathlib.Core.List.{List, List·Memᴰ}
-use mathlib.Core.Option.{Option, none, some, Option·getD}
+use mathlib.Core.Option.{Option, none, some}
 use Prim.Native.Nat.{ℕ}
 use denote.Ref.{now}
 use lib.ListN.{length}
-use Rattle.basics.proofs.Laws.Test.{never}
 use Rattle.refusal.specs.Chain.{leftBy}
 use Rattle.refusal.specs.Number.{fixedList, numberOf}
 use Rattle.refusal.specs.declared.Refusal.{Refusal}
 use Rattle.refusal.proofs.Laws.Number.{number-on-list}
-use Rattle.rs.specs.Decode.{given, decode, repairable, repaired}
+use Rattle.anc.specs.Words.{lowBytes, soundWords, fillRefusal, fillLeaves}
+use Rattle.rs.specs.Decode.{decodeRefusal}
+use Rattle.rs.proofs.Laws.Decode.{refused-keeps}
 use Rattle.refusal.specs.declared.Checked.{Checked}
 use Rattle.refusal.specs.Checked.{checkedOf, refusalIn}
 use Rattle.items.specs.Item.{itemRefusal}
-use Rattle.record.specs.Stored.{putLeaves, storeRefusal, storeLeaves}
-use Rattle.record.specs.Written.{written}
+use Rattle.record.specs.Stored.{putRefusal, putLeaves, storeRefusal, storeLeaves}
+use Rattle.record.specs.Written.{writtenRefusal, written}
+use Rattle.steps.specs.Steps.{backRefusal, backFrom}
 use Rattle.refusal.proofs.Laws.Chain.{refusal-in}
 use Rattle.repair.specs.Repair.{repairLeaves, refusalIn as refusalInRepair}
 use Rattle.writing.specs.Written.{writeLeaves, refusalIn as refusalInWriting}
@@ -40,7 +41,6 @@ use Rattle.answers.specs.declared.AyField.{AyField}
 use Rattle.answers.specs.declared.AyTurn.{AyTurn}
 use Rattle.answers.specs.Answers.{answerBy}
 use Rattle.answers.proofs.Laws.Done.{packet-says, repaired-says, field-says, turn-says}
-use Rattle.anc.proofs.Laws.Words.{low-kept, sound-kept}
 use Rattle.promises.specs.Refused.{Tells, NotZero, RefusedKeeps}
 use Rattle.promises.specs.Calls.{Edits, Undoes, Sends, Follows}
 use Rattle.promises.proofs.Laws.Calls.{edits-is, undoes-is, sends-is, follows-is}
@@ -54,6 +54,8 @@ use Rattle.record.proofs.write_record.Kinds as write-record-types
 use Rattle.record.proofs.write_record.Reads as write-record-contract
 use Rattle.record.proofs.put_item.Kinds as put-item-types
 use Rattle.record.proofs.put_item.Reads as put-item-contract
+use Rattle.steps.proofs.put_back.Kinds as put-back-types
+use Rattle.steps.proofs.put_back.Reads as put-back-contract
 use Rattle.record.proofs.store_item.Kinds as store-item-types
 use Rattle.record.proofs.store_item.Reads as store-item-contract
 use Rattle.repair.proofs.repair.Kinds as repair-types
@@ -128,31 +130,28 @@ pub desk-send : RefusedKeeps 1 send-types.ps send-types.r (λ κs a. Tells refus
 unfolding sendLeaves sent
 desk-send κs i a s p (why, e) = p .1 ∙ kept _ why _ _ (checked-said (sendRefusal (i .0) (length (now (i .1 .0)))) (a .checked) why (ap (λ (t : Turn). t .checked) (p .0)) e)
 
--- where the answer is yes or no
-pub write-record : RefusedKeeps 2 write-record-types.ps write-record-types.r (λ κs a. a ≡ false) (λ κs i. now (i .1 .0)) (λ κs s. now (s .1 .0)) write-record-contract.Learnt
+pub write-record : RefusedKeeps 2 write-record-types.ps write-record-types.r (λ κs. Tells refusalIn) (λ κs i. now (i .1 .0)) (λ κs s. now (s .1 .0)) write-record-contract.Learnt
 unfolding written
-write-record κs i a s p e = p .1 ∙ rw (sym (p .0) ∙ e)
+write-record κs i a s p (why, e) = p .1 ∙ kept _ why _ _ (checked-said (writtenRefusal (now (i .0)) (length (now (i .1 .0)))) a why (p .0) e)
 
-pub put-item : RefusedKeeps 2 put-item-types.ps put-item-types.r (λ κs a. a ≡ false) (λ κs i. now (i .1 .1 .0)) (λ κs s. now (s .1 .1 .0)) put-item-contract.Learnt
+pub put-item : RefusedKeeps 2 put-item-types.ps put-item-types.r (λ κs. Tells refusalIn) (λ κs i. now (i .1 .1 .0)) (λ κs s. now (s .1 .1 .0)) put-item-contract.Learnt
 unfolding putLeaves
-put-item κs i a s p e = p .1 ∙ rw (sym (p .0) ∙ e)
+put-item κs i a s p (why, e) = p .1 ∙ kept _ why _ _ (checked-said (putRefusal (i .0) (now (i .1 .0)) (length (now (i .1 .1 .0)))) a why (p .0) e)
 
-unrepaired : (l : List ℕ) → repairable l ≡ false → repaired l ≡ l
-unfolding repairable repaired
-unrepaired l = by (decode l)
-  where
-    by : (o : Option (List ℕ)) → given o ≡ false → Option·getD o l ≡ l
-    by none e = refl
-    by (some c) e = never e
+pub put-back : RefusedKeeps 1 put-back-types.ps put-back-types.r (λ κs. Tells refusalIn) (λ κs i. now (i .1 .0)) (λ κs s. now (s .1 .0)) put-back-contract.Learnt
+unfolding backRefusal backFrom putLeaves
+put-back κs i a s p (why, e) = p .1 ∙ kept _ why _ _ (checked-said (backRefusal (i .0) (length (now (i .1 .0)))) a why (p .0) e)
 
-pub search-repair : RefusedKeeps 1 search-repair-types.ps search-repair-types.r (λ κs a. a ≡ false) (λ κs i. now (i .0)) (λ κs s. now (s .0)) search-repair-contract.Learnt
-search-repair κs i a s p e = p .1 ∙ unrepaired (now (i .0)) (sym (p .0) ∙ e)
+pub search-repair : RefusedKeeps 1 search-repair-types.ps search-repair-types.r (λ κs. Tells refusalIn) (λ κs i. now (i .0)) (λ κs s. now (s .0)) search-repair-contract.Learnt
+search-repair κs i a s p (why, e) = p .1 ∙ refused-keeps (now (i .0)) why (checked-said (decodeRefusal (now (i .0))) a why (p .0) e)
 
-pub low-bytes : RefusedKeeps 2 low-bytes-types.ps low-bytes-types.r (λ κs a. a ≡ false) (λ κs i. now (i .1 .0)) (λ κs s. now (s .1 .0)) low-bytes-contract.Learnt
-low-bytes κs i a s p e = p .1 ∙ low-kept (now (i .0)) (now (i .1 .0)) (sym (p .0) ∙ e)
+pub low-bytes : RefusedKeeps 2 low-bytes-types.ps low-bytes-types.r (λ κs. Tells refusalIn) (λ κs i. now (i .1 .0)) (λ κs s. now (s .1 .0)) low-bytes-contract.Learnt
+unfolding fillLeaves
+low-bytes κs i a s p (why, e) = p .1 ∙ kept _ why _ _ (checked-said (fillRefusal (lowBytes (now (i .0))) (length (now (i .1 .0)))) a why (p .0) e)
 
-pub sound-words : RefusedKeeps 2 sound-words-types.ps sound-words-types.r (λ κs a. a ≡ false) (λ κs i. now (i .1 .0)) (λ κs s. now (s .1 .0)) sound-words-contract.Learnt
-sound-words κs i a s p e = p .1 ∙ sound-kept (now (i .0)) (now (i .1 .0)) (sym (p .0) ∙ e)
+pub sound-words : RefusedKeeps 2 sound-words-types.ps sound-words-types.r (λ κs. Tells refusalIn) (λ κs i. now (i .1 .0)) (λ κs s. now (s .1 .0)) sound-words-contract.Learnt
+unfolding fillLeaves
+sound-words κs i a s p (why, e) = p .1 ∙ kept _ why _ _ (checked-said (fillRefusal (soundWords (now (i .0))) (length (now (i .1 .0)))) a why (p .0) e)
 
 -- ---- the buffers lent by C
 

@@ -5,7 +5,7 @@ use Rattle.gf256.specs.Field.{_⊕_, _⊗_, byBits, double}
 use Rattle.anc.specs.Word.{wordOf, withB9, bit, ones, parityOf as evenParity, total, checksumOf}
 use Rattle.rs.specs.Polynomial.{_⊞_, scale}
 use Rattle.rs.specs.Codeword.{parityOf, remainder, next, divisorBytes}
-use Rattle.rules.specs.Rules.{soundByte, oneOf, pictureRule, lowHalf, timeByte, decimal}
+use Rattle.rules.specs.Rules.{soundByte, oneOf, pictureRule, lowHalf, timeRule, timeByte, decimal}
 use Rattle.anc.specs.Words.{soundWords, flag}
 use Rattle.writing.specs.Layout.{packetWords, summedWords, kind, headerWord, protectedWords}
 use Rattle.items.specs.Items.{items}
@@ -15,7 +15,7 @@ use Rattle.sequence.specs.Sequence.{stepOf, kindOf}
 use Rattle.promises.specs.Values.{Values}
 
 pub values : Values
-unfolding opening items rowOf put putIn putItem stepOf kindOf packetWords summedWords kind flag headerWord protectedWords soundWords wordOf withB9 bit ones evenParity total checksumOf parityOf remainder next divisorBytes _⊞_ scale _⊗_ byBits double _⊕_ soundByte oneOf pictureRule lowHalf timeByte decimal
+unfolding opening items rowOf put putIn putItem stepOf kindOf packetWords summedWords kind flag headerWord protectedWords soundWords wordOf withB9 bit ones evenParity total checksumOf parityOf remainder next divisorBytes _⊞_ scale _⊗_ byBits double _⊕_ soundByte oneOf pictureRule lowHalf timeRule timeByte decimal
 values = record {
   byte-85 = refl;
   byte-0F = refl;

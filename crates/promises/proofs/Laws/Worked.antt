@@ -1,5 +1,5 @@
 -- The lines of demand 3 are not few: every call can be made on them, any packet on a line can be damaged in three words, and one line with
--- damage, a repeat and a drop is worked out.
+-- damage, a repeat, a drop and a refused send is worked out.
 -- Assumes nothing.
 use mathlib.Core.Path.{_≡_, refl, sym, ap, ap₂, _∙_}
 use mathlib.Core.Bool.{Bool, true, false, _&&_}
@@ -19,6 +19,9 @@ use Rattle.rules.specs.Rules.{soundRule, soundByte, oneOf}
 use Rattle.items.specs.Items.{items}
 use Rattle.items.specs.Item.{rowOf, refusedIn, itemRefusal}
 use Rattle.anc.specs.Words.{narrow}
+use Rattle.writing.specs.Written.{writtenOf, writeLeaves}
+use Rattle.repair.specs.Repair.{repairedOf, repairLeaves}
+use Rattle.reading.specs.Answer.{readingOf, readingIntoOf, readLeaves}
 use Rattle.reading.specs.Reading.{protectedOf}
 use Rattle.desk.specs.declared.Desk.{Desk}
 use Rattle.desk.specs.Desk.{opened, edited, undone, sent, sendLeaves, opening as desk-opening}
@@ -27,8 +30,11 @@ use Rattle.follower.specs.declared.Follower.{Follower}
 use Rattle.follower.specs.declared.Heard.{Heard}
 use Rattle.follower.specs.Follower.{followed, opened as begun}
 use Rattle.follower.proofs.Laws.Count.{counted-true}
-use Rattle.promises.specs.Calls.{Opens, Edits, Undoes, Sends, Begins, Follows}
-use Rattle.promises.specs.Line.{Delivers, Fate, unsent, waiting, dropped, delivered, Scene, sent as send-to, turned, heard, Line, opens, turns, sends, drops, delivers, repeats}
+use Rattle.lines.specs.Shown.{shown}
+use Rattle.lines.proofs.Laws.Shown.{shown-sized}
+use Rattle.promises.specs.Calls.{Opens, Edits, Undoes, Sends, Begins, Follows, Shows}
+use Rattle.promises.specs.PacketCalls.{Writes, ReadsPacket, ReadsInto, Repairs}
+use Rattle.promises.specs.Line.{Delivers, Fate, unsent, waiting, dropped, delivered, Scene, sent as send-to, turned, heard, Line, opens, turns, sends, no-room, drops, delivers, repeats}
 use Rattle.promises.specs.History.{edits, undoes}
 use Rattle.promises.proofs.Laws.Line.{Ordinary, waiting-ordinary, delivered-ordinary, demand-3}
 
@@ -74,6 +80,51 @@ begin-call = record { κs = tt; input = tt; exit = tt; allowed = refl }
 
 pub follow-call : (f : Follower) (words : List ℕ) → Follows f words (followed f words)
 follow-call f words = record { κs = ([], tt); input = (f, (lend words, tt)); exit = (f, (lend words, tt)); own = refl; lent = refl; allowed = refl }
+
+pub write-call : (on : Bool) (ci : ℕ) (bytes old : List ℕ) → Bytes bytes → Writes on ci bytes old (writtenOf ci bytes (length old)) (writeLeaves on ci bytes old)
+write-call on ci bytes old b =
+    record {
+      κs = ([], ([], tt));
+      input = (on, (ci, (lend bytes, (lend old, tt))));
+      exit = (on, (ci, (lend bytes, (lend (writeLeaves on ci bytes old), tt))));
+      correction = refl;
+      index = refl;
+      lent = refl;
+      are-bytes = b;
+      room = refl;
+      leaves = refl;
+      allowed = (refl, refl);
+    }
+
+pub read-packet-call : (words : List ℕ) → ReadsPacket words (readingOf words)
+read-packet-call words = record { κs = ([], tt); input = (lend words, tt); exit = (lend words, tt); lent = refl; allowed = refl }
+
+pub read-into-call : (words old : List ℕ) → ReadsInto words old (readingIntoOf words (length old)) (readLeaves words old)
+read-into-call words old =
+    record {
+      κs = ([], ([], tt));
+      input = (lend words, (lend old, tt));
+      exit = (lend words, (lend (readLeaves words old), tt));
+      lent = refl;
+      room = refl;
+      leaves = refl;
+      allowed = (refl, refl);
+    }
+
+pub repair-call : (words old : List ℕ) → Repairs words old (repairedOf words (length old)) (repairLeaves words old)
+repair-call words old =
+    record {
+      κs = ([], ([], tt));
+      input = (lend words, (lend old, tt));
+      exit = (lend words, (lend (repairLeaves words old), tt));
+      lent = refl;
+      room = refl;
+      leaves = refl;
+      allowed = (refl, refl);
+    }
+
+pub show-call : (field : List ℕ) → Shows field (shown field)
+show-call field = record { κs = ([], tt); input = (lend field, tt); exit = (lend field, tt); lent = refl; allowed = shown-sized field (shown field) refl }
 
 -- ---- any packet on a line can be damaged in three words
 
@@ -147,6 +198,10 @@ module _ (s : Scene) (l : Line s) where
   pub send-on : waits (s .fate) ≡ false → Line sent-on
   send-on free = sends l (λ e. never (sym (ap waits e) ∙ free)) refl (send-call (s .desk) room)
 
+  -- a send that is refused for its room, also while a packet is on the line
+  pub no-room-on : (old : List ℕ) → (length old ≡ 262 → ⊥) → Line (turned s (sent (s .desk) (length old) .desk) (s .history))
+  no-room-on old n = no-room l n (send-call (s .desk) old)
+
   -- a delivery with damage, and a repeat
   abbrev heard-on : ℕ → ℕ → ℕ → ℕ → Scene
   heard-on x y z repeated = heard s (followed (s .follower) (struck (s .words) x y z)) repeated
@@ -178,23 +233,24 @@ given-back : undoTo (edited-once .earlier) edited-once .present ≡ desk-opening
 unfolding fresh editM sendM itemRefusal refusedIn rowOf items soundRule soundByte oneOf all
 given-back = refl
 
--- the desk opens and sends; the packet arrives damaged, and once more with other damage; an edit; the next packet is dropped; an undo; the
--- packet after that arrives damaged
+-- the desk opens and sends; a send into no room is refused while the packet is on the line; the packet arrives damaged, and once more with other
+-- damage; an edit; the next packet is dropped; an undo; the packet after that arrives damaged
 pub worked : Worked
 worked =
     let l1 = send-on _ (opens (open-call true) begin-call) refl in
-    let l2 = deliver-on _ l1 0 1 2 (omega arith) (omega arith) (omega arith) refl (λ e. never (sym e)) in
-    let l3 = repeat-on _ l2 3 4 5 (omega arith) (omega arith) (omega arith) _ refl in
-    let l4 = edit-on _ l3 6 (0x12 ∷ []) (lit< tt, tt) in
-    let l5 = send-on _ l4 refl in
-    let l6 = drops l5 refl in
-    let l7 = undo-on _ l6 in
-    let l8 = send-on _ l7 refl in
-    let l9 = deliver-on _ l8 1021 1022 1023 (omega arith) (omega arith) (omega arith) refl (λ e. omega arith) in
-    let A = demand-3 _ _ l9 refl in
+    let l2 = no-room-on _ l1 [] (λ e. omega arith) in
+    let l3 = deliver-on _ l2 0 1 2 (omega arith) (omega arith) (omega arith) refl (λ e. never (sym e)) in
+    let l4 = repeat-on _ l3 3 4 5 (omega arith) (omega arith) (omega arith) _ refl in
+    let l5 = edit-on _ l4 6 (0x12 ∷ []) (lit< tt, tt) in
+    let l6 = send-on _ l5 refl in
+    let l7 = drops l6 refl in
+    let l8 = undo-on _ l7 in
+    let l9 = send-on _ l8 refl in
+    let l10 = deliver-on _ l9 1021 1022 1023 (omega arith) (omega arith) (omega arith) refl (λ e. omega arith) in
+    let A = demand-3 _ _ l10 refl in
     record {
       scene = _;
-      line = l9;
+      line = l10;
       answer = _;
       latest = refl;
       held = A .held ∙ given-back;

@@ -29,7 +29,7 @@ use Rattle.writing.specs.Layout.{headerWord, protectedWords, summedWords, packe
 use Rattle.anc.proofs.Laws.Words.{flag-words, low-words}
 use Rattle.rs.proofs.Laws.Decode.{repaired-codeword}
 use Rattle.writing.proofs.Laws.Layout.{packet-carries, summed-shape, protected-on}
-use Rattle.reading.specs.Reading.{word, correctionOf, indexOf, protectedOf, readWords, readBytes, summedOf, isFill, headRefusal, protectedRefusal, bodyRefusal, readRefusal}
+use Rattle.reading.specs.Reading.{word, correctionOf, indexOf, protectedOf, readWords, readBytes, summedOf, isFill, headRefusal, protectedRefusal, bodyRefusal, readRefusal, rewrittenPacket}
 
 -- ---- what an accepted packet has passed
 
@@ -142,9 +142,9 @@ protected-again ws A false e =
     let q = require-passed _ _ _ (p .1) in
     rw e (off-again (protectedOf ws) (length-part ws (A .long)) (p .0) (q .0))
 
--- written again, an accepted packet is the words as they are read
-pub again : (ws : List ℕ) → readRefusal ws ≡ none → packetWords (correctionOf ws) (indexOf ws) (readBytes ws) ≡ take 7 ws ++ readWords ws ++ drop 261 ws
-unfolding correctionOf indexOf summedOf flag
+-- an accepted packet's rewritten words are the layout of the bytes that are read
+pub again : (ws : List ℕ) → readRefusal ws ≡ none → packetWords (correctionOf ws) (indexOf ws) (readBytes ws) ≡ rewrittenPacket ws
+unfolding correctionOf indexOf summedOf flag rewrittenPacket
 again ws e =
     let A = accepted-parts ws e in
     let on : Bool = correctionOf ws in

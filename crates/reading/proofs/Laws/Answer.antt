@@ -18,8 +18,8 @@ use Rattle.refusal.proofs.Laws.Chain.{require-passed, next-passed, told}
 use Rattle.rs.specs.Decode.{repaired, changes}
 use Rattle.record.specs.Record.{broken, recordOf, recordRefusal}
 use Rattle.items.specs.Items.{items}
-use Rattle.refusal.specs.Checked.{checkedOf}
-use Rattle.record.specs.Written.{fits, written}
+use Rattle.refusal.specs.Checked.{checkedOf, refusalIn as refusalInCheck}
+use Rattle.record.specs.Written.{writtenRefusal, written}
 use Rattle.refusal.specs.declared.Checked.{Checked}
 use Rattle.refusal.specs.declared.Checked.the-variants.{Passed, Refused}
 use Rattle.repair.specs.Protected.{rewritten, fixedOf}
@@ -137,39 +137,33 @@ module _ (ws : List ℕ) (a : Checked) (ea : a ≡ checkedOf (readRefusal ws)) w
   pub answer-room : (bytes : List ℕ) → a ≡ Passed → bytes ≡ guardBytes (correctionOf ws) (protectedOf ws) → length bytes ≡ 254
   answer-room bytes p e = ap length e ∙ guardBytes-length (correctionOf ws) (protectedOf ws) ∙ length-part ws (answer-long p)
 
-  -- ---- with a lent buffer
+  -- ---- with a lent buffer, over which the record of 248 bytes is written
 
-  module _ (bytes out : List ℕ) (p : a ≡ Passed) (e : bytes ≡ guardBytes (correctionOf ws) (protectedOf ws)) where
-    fits-room : fits (take 248 bytes) out ≡ eqb (length out) 248
-    unfolding fits
-    fits-room = let n = answer-room bytes p e in simp (eq-eqb (length (take 248 bytes)) 248 (length-take-le 248 bytes (omega arith)))
+  module _ (source out : List ℕ) (n : length source ≡ 248) (p : a ≡ Passed) where
+    -- the room is what that is refused for
+    into : readIntoRefusal ws (length out) ≡ writtenRefusal source (length out)
+    unfolding readIntoRefusal writtenRefusal
+    into =
+        ap (λ (o : Option Refusal). next o (require (eqb (length out) 248) (refusalPlain Room) none)) (passes p)
+        ∙ sym (rw (eq-eqb (length source) 248 n))
 
-    into : readIntoRefusal ws (length out) ≡ require (eqb (length out) 248) (refusalPlain Room) none
-    unfolding readIntoRefusal
-    into = ap (λ (o : Option Refusal). next o (require (eqb (length out) 248) (refusalPlain Room) none)) (passes p)
-
-    into-by : (t : Bool) → fits (take 248 bytes) out ≡ t → readIntoRefusal ws (length out) ≡ require t (refusalPlain Room) none
-    into-by t f = into ∙ ap (λ (b : Bool). require b (refusalPlain Room) none) (sym fits-room ∙ f)
-
-    pub into-full : (t : Bool) → t ≡ fits (take 248 bytes) out → t ≡ false → RefusedReading (refusalPlain Room) ≡ readingIntoOf ws (length out)
-    unfolding readingIntoOf
-    into-full t f q = sym (ap (λ (o : Option Refusal). readingBy o (packetOf ws)) (into-by false (sym f ∙ q)))
-
-    pub left-full : (t : Bool) → t ≡ fits (take 248 bytes) out → t ≡ false → written (take 248 bytes) out ≡ readLeaves ws out
+    pub left-written : recordOf source ≡ readRecord ws → written source out ≡ readLeaves ws out
     unfolding written readLeaves
-    left-full t f q =
-        ap (λ (b : Bool). cond b (recordOf (take 248 bytes)) out) (sym f ∙ q) ∙ sym (ap (λ (o : Option Refusal). leftBy o (readRecord ws) out) (into-by false (sym f ∙ q)))
+    left-written e = ap₂ (λ (o : Option Refusal) (r : List ℕ). leftBy o r out) (sym into) e
 
-    pub into-accepted : (t : Bool) (k : Packet) → t ≡ fits (take 248 bytes) out → t ≡ true → k ≡ packetBy ws bytes → Accepted k ≡ readingIntoOf ws (length out)
-    unfolding readingIntoOf
-    into-accepted t k f q d =
-        ap Accepted (d ∙ ap (packetBy ws) e ∙ packet-guard ws) ∙ sym (ap (λ (o : Option Refusal). readingBy o (packetOf ws)) (into-by true (sym f ∙ q)))
+    module _ (w : Checked) (ew : w ≡ checkedOf (writtenRefusal source (length out))) where
+      into-told : (b : Checked) → w ≡ b → readIntoRefusal ws (length out) ≡ refusalInCheck b
+      into-told b q = into ∙ told (writtenRefusal source (length out)) w b ew q
 
-    pub left-accepted : (t : Bool) → t ≡ fits (take 248 bytes) out → t ≡ true → written (take 248 bytes) out ≡ readLeaves ws out
-    unfolding written readLeaves readRecord
-    left-accepted t f q =
-        ap (λ (b : Bool). cond b (recordOf (take 248 bytes)) out) (sym f ∙ q) ∙ ap recordOf (ap (take 248) e ∙ data-guard ws)
-        ∙ sym (ap (λ (o : Option Refusal). leftBy o (recordOf (readBytes ws)) out) (into-by true (sym f ∙ q)))
+      pub into-full : (why : Refusal) → w ≡ Refused why → RefusedReading why ≡ readingIntoOf ws (length out)
+      unfolding readingIntoOf
+      into-full why q = sym (ap (λ (o : Option Refusal). readingBy o (packetOf ws)) (into-told (Refused why) q))
+
+      pub into-accepted : (bytes : List ℕ) (k : Packet) → w ≡ Passed → bytes ≡ guardBytes (correctionOf ws) (protectedOf ws) → k ≡ packetBy ws bytes
+          → Accepted k ≡ readingIntoOf ws (length out)
+      unfolding readingIntoOf
+      into-accepted bytes k q e d =
+          ap Accepted (d ∙ ap (packetBy ws) e ∙ packet-guard ws) ∙ sym (ap (λ (o : Option Refusal). readingBy o (packetOf ws)) (into-told Passed q))
 
   module _ (out : List ℕ) (why : Refusal) (p : a ≡ Refused why) where
     stopped : readIntoRefusal ws (length out) ≡ some why
@@ -227,17 +221,35 @@ module _ (ws old : List ℕ) (r : Reading) (n : length old ≡ 248) (er : r ≡ 
   room-by : readIntoRefusal ws (length old) ≡ readRefusal ws
   room-by = ap (readIntoRefusal ws) n ∙ into-room ws
 
-  into-told : readingBy (readRefusal ws) (packetOf ws) ≡ r
+  reading-told : readingBy (readRefusal ws) (packetOf ws) ≡ r
   unfolding readingIntoOf
-  into-told = sym (er ∙ ap (λ (o : Option Refusal). readingBy o (packetOf ws)) room-by)
+  reading-told = sym (er ∙ ap (λ (o : Option Refusal). readingBy o (packetOf ws)) room-by)
 
   -- accepted: no check refuses, the packet is that of the words, and their record is left
   pub accepted-is : (p : Packet) → r ≡ Accepted p → (readRefusal ws ≡ none) × (p ≡ packetOf ws) × (readLeaves ws old ≡ readRecord ws)
   unfolding readLeaves
   accepted-is p e =
-      let told = by-accepted (readRefusal ws) (packetOf ws) p (into-told ∙ e) in
+      let told = by-accepted (readRefusal ws) (packetOf ws) p (reading-told ∙ e) in
       (told .0, told .1, ap (λ (o : Option Refusal). leftBy o (readRecord ws) old) (room-by ∙ told .0))
 
   -- refused: for that
   pub refused-is : (why : Refusal) → r ≡ RefusedReading why → readRefusal ws ≡ some why
-  refused-is why e = by-refused (readRefusal ws) (packetOf ws) why (into-told ∙ e)
+  refused-is why e = by-refused (readRefusal ws) (packetOf ws) why (reading-told ∙ e)
+
+-- only room for a record is accepted
+pub accepted-room : (ws : List ℕ) (room : ℕ) (p : Packet) → readingIntoOf ws room ≡ Accepted p → room ≡ 248
+unfolding readingIntoOf readIntoRefusal
+accepted-room ws room p e =
+    eqb-true _ _ (require-passed _ _ _ (next-passed (readRefusal ws) _ (by-accepted (readIntoRefusal ws room) (packetOf ws) p e .0) .1) .0)
+
+-- where no check refuses: the packet is that of the words, and their record is left
+pub read-accepts : (ws : List ℕ) → readRefusal ws ≡ none → readingOf ws ≡ Accepted (packetOf ws)
+unfolding readingOf
+read-accepts ws e = ap (λ (o : Option Refusal). readingBy o (packetOf ws)) e
+
+pub into-accepts : (ws old : List ℕ) → readRefusal ws ≡ none → length old ≡ 248
+    → (readingIntoOf ws (length old) ≡ Accepted (packetOf ws)) × (readLeaves ws old ≡ readRecord ws)
+unfolding readingIntoOf readLeaves
+into-accepts ws old e n =
+    let ok : readIntoRefusal ws (length old) ≡ none = ap (readIntoRefusal ws) n ∙ into-room ws ∙ e in
+    (ap (λ (o : Option Refusal). readingBy o (packetOf ws)) ok, ap (λ (o : Option Refusal). leftBy o (readRecord ws) old) ok)

@@ -17,18 +17,19 @@ use Rattle.anc.specs.Word.{isSound, checksumOf}
 use Rattle.anc.specs.Words.{flag, hasFlag, lowBytes, narrow}
 use Rattle.anc.proofs.Laws.Checksum.{checksum-lt}
 use Rattle.anc.proofs.Laws.Words.{narrow-cons, narrow-append}
-use Rattle.record.specs.Record.{broken}
+use Rattle.record.specs.Record.{broken, recordOf}
 use Rattle.items.specs.Items.{items}
-use Rattle.writing.specs.Layout.{headerWord, protectedWords, summedWords}
-use Rattle.writing.proofs.Laws.Layout.{protected-bytes, carrying, summed-shape, header-low, header-lt, header-sound, header-b7, header-zero, header-index}
-use Rattle.reading.specs.Reading.{correctionOf, indexOf, protectedOf, readWords, readBytes, summedOf, headRefusal, protectedRefusal, bodyRefusal, readRefusal}
+use Rattle.writing.specs.Layout.{headerWord, protectedWords, summedWords, carrying}
+use Rattle.writing.proofs.Laws.Layout.{protected-bytes, summed-shape, header-low, header-lt, header-sound, header-b7, header-zero, header-index}
+use Rattle.reading.specs.Reading.{correctionOf, indexOf, protectedOf, readWords, readBytes, summedOf, headRefusal, protectedRefusal, bodyRefusal, readRefusal, readRecord}
 
--- the packet is accepted, with this correction bit, index and record bytes
+-- the packet is accepted, with this correction bit, index and data bytes, and with their record
 pub record Reads (words : List ℕ) (on : Bool) (ci : ℕ) (r : List ℕ) : Type 0 where
   pub accepted : readRefusal words ≡ none
   pub correction : correctionOf words ≡ on
   pub index : indexOf words ≡ ci
   pub bytes : readBytes words ≡ r
+  pub rec : readRecord words ≡ recordOf r
 
 module _ (on : Bool) (ci : ℕ) (r q : List ℕ) (hc : ci ≤ 15) (nr : length r ≡ 248) (br : Bytes r) (nq : length q ≡ 254) (wq : narrow q ≡ true) where
   abbrev ws : List ℕ
@@ -66,6 +67,10 @@ module _ (on : Bool) (ci : ℕ) (r q : List ℕ) (hc : ci ≤ 15) (nr : length r
     unfolding readBytes
     carried-bytes = ap (λ (l : List ℕ). take 248 (lowBytes l)) w ∙ protected-bytes on r nr br
 
+    carried-record : readRecord ws ≡ recordOf r
+    unfolding readRecord
+    carried-record = ap recordOf carried-bytes
+
     carried-sum : eqb (checksumOf (summedOf ws)) (getD ws 261 0) ≡ true
     unfolding summedOf
     carried-sum =
@@ -74,7 +79,7 @@ module _ (on : Bool) (ci : ℕ) (r q : List ℕ) (hc : ci ≤ 15) (nr : length r
 
     -- once its protected words are read as they were written, the packet reads as what was written
     pub reads : protectedRefusal (correctionOf ws) (protectedOf ws) ≡ none → broken items r ≡ none → Reads ws on ci r
-    reads e b = record { accepted = accepted; correction = carried-correction; index = carried-index; bytes = carried-bytes }
+    reads e b = record { accepted = accepted; correction = carried-correction; index = carried-index; bytes = carried-bytes; rec = carried-record }
       where
         accepted : readRefusal ws ≡ none
         accepted =

@@ -12,11 +12,17 @@ use Rattle.anc.specs.Word.{isSound}
 use Rattle.refusal.specs.Chain.{require, passed}
 use Rattle.refusal.specs.Number.{refusalPlain}
 use Rattle.refusal.specs.declared.Reason.the-variants.{Parity, Fill, BeyondRepair}
-use Rattle.rs.specs.Decode.{changes, repairable, repaired}
+use Rattle.rs.specs.Decode.{changes, repairable, repaired, decodeRefusal}
+use Rattle.rs.proofs.Laws.Decode.{decode-decides}
 use Rattle.basics.specs.Each.{all}
 use Rattle.basics.proofs.Laws.Parts.{join, part-entries}
 use Rattle.reading.specs.declared.Packet.{Packet}
+use Rattle.refusal.specs.declared.Refusal.{Refusal}
 use Rattle.repair.specs.Protected.{rewritten}
+use Rattle.repair.specs.Repair.{countedOf}
+use Rattle.repair.specs.declared.Repaired.{Repaired}
+use Rattle.repair.specs.declared.Repaired.the-variants.{Fixed, Refused}
+use Rattle.repair.proofs.Laws.Changes.{counted-words}
 use Rattle.anc.specs.Words.{lowBytes, soundWords}
 use Rattle.reading.specs.Reading.{word, correctionOf, indexOf, protectedOf, isFill, protectedRefusal}
 use Rattle.reading.specs.Answer.{packetBy, guardBytes, summedBy}
@@ -29,6 +35,10 @@ module _ (on : Bool) (ws : List ℕ) where
   pub guarded-on : on ≡ true → protectedRefusal on ws ≡ require (repairable (lowBytes ws)) (refusalPlain BeyondRepair) passed
   unfolding protectedRefusal
   guarded-on e = rw e
+
+  -- that is what repair of their bytes is refused for
+  pub repair-decides : on ≡ true → length ws ≡ 254 → decodeRefusal (lowBytes ws) ≡ protectedRefusal on ws
+  repair-decides e n = decode-decides (lowBytes ws) (lowBytes-length ws ∙ n) ∙ sym (guarded-on e)
 
   pub guarded-off : on ≡ false
       → protectedRefusal on ws ≡ require (all isSound (take 248 ws)) (refusalPlain Parity) (require (all isFill (drop 248 ws)) (refusalPlain Fill) passed)
@@ -73,6 +83,16 @@ unfolding summedBy protectedOf
 summed-off ws bytes = sym (join ws 3 4 254 (take 254 (drop 7 ws)) refl)
 
 -- ---- what is told of a packet
+
+-- a count of so many is not refused
+pub fixed-told : (words bytes : List ℕ) (a : Repaired) (n : ℕ) → length words ≡ 254 → length bytes ≡ 254 → a ≡ countedOf words bytes → a ≡ Fixed n → n ≡ changes words (soundWords bytes)
+fixed-told words bytes a n h k e f = let g : Fixed n ≡ Fixed (changes words (soundWords bytes)) = sym f ∙ e ∙ sym (counted-words words bytes h k) in cc
+
+pub fixed-never : (words bytes : List ℕ) (a : Repaired) (why : Refusal) → length words ≡ 254 → length bytes ≡ 254 → a ≡ countedOf words bytes → a ≡ Refused why → ⊥
+fixed-never words bytes a why h k e f =
+    let g : Refused why ≡ Fixed (changes words (soundWords bytes)) = sym f ∙ e ∙ sym (counted-words words bytes h k) in
+    let z : _≡_ {A = ℕ} 0 1 = cc in
+    omega arith
 
 pub packet-on : (ws bytes : List ℕ) (n : ℕ) → correctionOf ws ≡ true → n ≡ changes (protectedOf ws) (soundWords bytes)
     → _≡_ {A = Packet} (record { correction = true; ci = word ws 6 % 16; fixed = n }) (packetBy ws bytes)

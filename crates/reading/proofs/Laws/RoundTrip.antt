@@ -1,6 +1,6 @@
 -- Read after write, with and without damage: what was written is what is read, and fixed is the number of words that changed.
 -- Assumes nothing.
-use mathlib.Core.Path.{_≡_, refl, sym, ap, _∙_, subst}
+use mathlib.Core.Path.{_≡_, refl, sym, ap, _∙_}
 use mathlib.Core.Bool.{Bool, true, false}
 use mathlib.Core.List.{List, _++_}
 use mathlib.Core.Option.{none}
@@ -13,16 +13,18 @@ use Rattle.anc.proofs.Laws.Word.{word-sound}
 use Rattle.basics.specs.Each.{all}
 use Rattle.rs.specs.Codeword.{parityOf}
 use Rattle.basics.specs.Below.{Bytes}
-use Rattle.rs.specs.Decode.{changes}
-use Rattle.rs.proofs.Laws.Distance.{changes-self}
+use Rattle.rs.specs.Decode.{changes, Within}
+use Rattle.rs.proofs.Laws.Distance.{changes-self, changes-sym}
 use Rattle.record.specs.Record.{broken}
 use Rattle.items.specs.Items.{items}
-use Rattle.anc.specs.Words.{soundWords, narrow}
-use Rattle.writing.specs.Layout.{protectedWords, packetWords}
+use Rattle.anc.specs.Words.{lowBytes, soundWords, narrow}
+use Rattle.writing.specs.Layout.{protectedWords, packetWords, carrying}
 use Rattle.reading.specs.Reading.{correctionOf, protectedOf, readWords, readFixed, isFill, protectedRefusal}
-use Rattle.anc.proofs.Laws.Words.{soundWords-length, words-all}
+use Rattle.reading.specs.Answer.{packetOf}
+use Rattle.anc.proofs.Laws.Words.{lowBytes-length, low-words, soundWords-length, words-all}
+use Rattle.repair.proofs.Laws.Changes.{low-changes}
 use Rattle.repair.proofs.Laws.Repair.{Recovered, repair-recovers}
-use Rattle.writing.proofs.Laws.Layout.{written-codeword, protected-on, length-protected, protected-narrow, carrying, packet-carries}
+use Rattle.writing.proofs.Laws.Layout.{written-codeword, protected-on, length-protected, protected-narrow, packet-carries}
 use Rattle.reading.proofs.Laws.Carried.{Reads, carried-correction, carried-protected, reads}
 
 -- ---- correction on, and up to three protected words changed
@@ -32,8 +34,16 @@ module _ (ci : ℕ) (r q : List ℕ) (hc : ci ≤ 15) (nr : length r ≡ 248) (b
   abbrev ws : List ℕ
   ws = carrying true ci r q
 
+  -- a byte changed only where its word did
+  near : Within (lowBytes q) (r ++ parityOf r)
+  near =
+      let C = written-codeword r nr br in
+      let sent : lowBytes (protectedWords true r) ≡ r ++ parityOf r = ap lowBytes (protected-on r) ∙ low-words (r ++ parityOf r) (C .bytes) in
+      let less : changes (lowBytes q) (lowBytes (protectedWords true r)) ≤ 3 = omega (arith, low-changes q (protectedWords true r)) in
+      record { word = C; long = C .long ∙ sym nq ∙ sym (lowBytes-length q); near = rw (changes-sym (r ++ parityOf r) (lowBytes q)) (rw sent at less) }
+
   mend : Recovered q (soundWords (r ++ parityOf r))
-  mend = repair-recovers (r ++ parityOf r) q (written-codeword r nr br) nq (subst (λ (l : List ℕ). changes q l ≤ 3) (protected-on r) few)
+  mend = repair-recovers (r ++ parityOf r) q near
 
   on : correctionOf ws ≡ true
   on = carried-correction true ci r q hc nr br nq wq
@@ -107,3 +117,11 @@ written-fixed true ci r hc nr br =
     (damaged-fixed ci r (protectedWords true r) hc nr br (length-protected true r nr) (protected-narrow true r br) (omega (arith, changes-self (protectedWords true r)))
     ∙ changes-self (protectedWords true r))
 written-fixed false ci r hc nr br = rw packet-carries (off-fixed ci r hc nr br)
+
+-- which is the packet that is told
+pub written-packet : (on : Bool) (ci : ℕ) (r : List ℕ) → ci ≤ 15 → length r ≡ 248 → Bytes r → broken items r ≡ none
+    → packetOf (packetWords on ci r) ≡ record { correction = on; ci = ci; fixed = 0 }
+unfolding packetOf
+written-packet on ci r hc nr br b =
+    let R = written-reads on ci r hc nr br b in
+    λ i. record { correction = R .correction i; ci = R .index i; fixed = written-fixed on ci r hc nr br i }

@@ -1,21 +1,27 @@
--- The checks of 248 bytes, one after the other.
+-- The checks of 248 bytes, one after the other, and which refusals they do not give.
 -- Assumes nothing.
 use mathlib.Core.Path.{_≡_, refl}
-use mathlib.Core.List.{List}
+use mathlib.Core.Bool.{true, not}
+use mathlib.Core.List.{List, [], _∷_, map}
+use mathlib.Core.Option.{some}
 use Prim.Native.Nat.{ℕ}
 use native.Mathlib.Omega.{arith}
+use lib.Dec.{eqb}
 use lib.ListN.{length, getD, take, drop}
-use borrow.Author.Tests.{eqb-true}
-use Rattle.refusal.proofs.Laws.Chain.{require-passed, told}
+use borrow.Author.Tests.{eqb-true, not-true}
+use Rattle.basics.specs.Each.{all}
+use Rattle.basics.proofs.Laws.Test.{both-true}
+use Rattle.refusal.proofs.Laws.Chain.{require-passed, passed-other, require-other, told}
 use Rattle.refusal.specs.Chain.{require, passed}
-use Rattle.refusal.specs.Number.{refusalAt}
+use Rattle.refusal.specs.Number.{numberOf, refusalAt}
 use Rattle.refusal.specs.declared.Reason.the-variants.{Station, Time, Picture, Sound}
+use Rattle.refusal.specs.declared.Refusal.{Refusal}
 use Rattle.refusal.specs.declared.Checked.{Checked}
 use Rattle.refusal.specs.declared.Checked.the-variants.{Passed}
 use Rattle.refusal.specs.Checked.{checkedOf}
 use Rattle.rules.specs.Rules.{stationRule, timeRule, pictureRule, soundByte, soundRule}
 use Rattle.record.specs.Record.{broken, recordRefusal}
-use Rattle.items.specs.Items.{items, part}
+use Rattle.items.specs.Items.{Row, items, part}
 use Rattle.rules.proofs.Laws.Rules.{sound-part}
 
 -- bytes that pass the check are 248
@@ -44,3 +50,14 @@ pub six-checks : (bytes : List ℕ) → length bytes ≡ 248 → recordRefusal b
     (require (soundByte (getD bytes 27 0)) (refusalAt Sound 28) passed)))))
 unfolding recordRefusal
 six-checks bytes h = rw (h, broken-items, sound-part bytes 26 (omega arith), sound-part bytes 27 (omega arith))
+
+-- ---- what they do not give
+
+-- a refusal whose number is that of no row
+pub broken-other : (is : List Row) (bytes : List ℕ) (why : Refusal) → all (λ n. not (eqb n (numberOf (why .reason)))) (map (λ i. numberOf (i .reason)) is) ≡ true
+    → broken is bytes ≡ some why → ⊥
+unfolding broken all
+broken-other [] bytes why a e = passed-other why e
+broken-other (i ∷ is) bytes why a e =
+    let b = both-true (not (eqb (numberOf (i .reason)) (numberOf (why .reason)))) _ a in
+    broken-other is bytes why (b .1) (require-other (i .rule (part i bytes)) _ why _ e (not-true _ (b .0)))

@@ -2,8 +2,8 @@
 -- the same, and how it is written over the bytes.
 -- Assumes nothing.
 use mathlib.Core.Path.{_≡_, refl, sym, ap, _∙_}
-use mathlib.Core.Bool.{true, false}
 use mathlib.Core.List.{List, [], _++_, append-nil, append-assoc}
+use mathlib.Core.Option.{none}
 use Prim.Native.Nat.{ℕ, _+_, _<_}
 use native.Mathlib.Nat.{zero-add}
 use native.Mathlib.Omega.{arith}
@@ -15,7 +15,11 @@ use borrow.Rule.Slice.PartMut.{putMid}
 use Rattle.rules.specs.Rules.{pictureClean}
 use Rattle.record.specs.Record.{cleaned, recordOf, broken, recordRefusal}
 use Rattle.items.specs.Items.{items, part}
-use Rattle.record.specs.Written.{fits, written}
+use Rattle.record.specs.Written.{writtenRefusal, written}
+use Rattle.refusal.specs.Checked.{checkedOf}
+use Rattle.refusal.specs.Number.{refusalPlain}
+use Rattle.refusal.specs.declared.Checked.the-variants.{Refused}
+use Rattle.refusal.specs.declared.Reason.the-variants.{Size, Room}
 use Rattle.basics.specs.Below.{Bytes}
 use Rattle.basics.proofs.Laws.Below.{entry-below, append-below, take-below, drop-below, replicate-below}
 use Rattle.basics.proofs.Laws.Parts.{run-length, join, skip, part-same, entry-same, over}
@@ -200,16 +204,17 @@ over-bytes bytes p q z h lp lq =
     three-over (take 17 bytes) p (drop 4 (drop 17 bytes)) q (take 18 (drop 25 bytes)) (drop 43 bytes) z (l17 bytes h) lp lq (l18 bytes h) rest ∙ rw last
 
 module _ (bytes out : List ℕ) where
-  pub unwritten-bytes : (length bytes ≡ 248 → ⊥) → (fits bytes out ≡ false) × (written bytes out ≡ out)
-  unfolding fits written
+  pub unwritten-bytes : (length bytes ≡ 248 → ⊥) → (Refused (refusalPlain Size) ≡ checkedOf (writtenRefusal bytes (length out))) × (out ≡ written bytes out)
+  unfolding writtenRefusal written
   unwritten-bytes n = simp (ne-eqb _ _ n) (refl, refl)
 
-  pub unwritten-room : length bytes ≡ 248 → (length out ≡ 248 → ⊥) → (fits bytes out ≡ false) × (written bytes out ≡ out)
-  unfolding fits written
+  pub unwritten-room : length bytes ≡ 248 → (length out ≡ 248 → ⊥)
+      → (Refused (refusalPlain Room) ≡ checkedOf (writtenRefusal bytes (length out))) × (out ≡ written bytes out)
+  unfolding writtenRefusal written
   unwritten-room h n = simp (h, ne-eqb _ _ n) (refl, refl)
 
-  pub record-fits : length bytes ≡ 248 → length out ≡ 248 → fits bytes out ≡ true
-  unfolding fits
+  pub record-fits : length bytes ≡ 248 → length out ≡ 248 → writtenRefusal bytes (length out) ≡ none
+  unfolding writtenRefusal
   record-fits h o = rw (h, o)
 
   pub record-written : length bytes ≡ 248 → length out ≡ 248 → (x p q z : List ℕ) → x ≡ bytes

@@ -1,7 +1,7 @@
 -- The bytes of one item in a record: what stands in its place and in the others once bytes are put there, that the old bytes put back
 -- give the old record, and that a record which keeps the rules and has nothing left to set to zero is one again once an item is stored.
 -- Assumes nothing.
-use mathlib.Core.Path.{_≡_, refl, sym, ap, _∙_, subst}
+use mathlib.Core.Path.{_≡_, refl, sym, ap, ap₂, _∙_, subst}
 use mathlib.Core.Bool.{Bool, true, false, cond, _&&_, _||_, false≢true}
 use mathlib.Core.List.{List, [], _∷_, _++_, append-assoc}
 use mathlib.Core.Option.{Option, none, some, Option·some-ne-none, Option·some-injective}
@@ -12,27 +12,27 @@ use lib.ListN.{length, take, drop, replicate, length-drop, take-append-drop}
 use lib.Seq.{length-take-le, drop-drop}
 use borrow.Author.Tests.{leb-true, eqb-true, eq-eqb, ne-eqb}
 use borrow.Rule.Slice.PartMut.{putMid}
-use Rattle.refusal.specs.Chain.{require}
+use Rattle.refusal.specs.Chain.{require, leftBy}
 use Rattle.refusal.specs.Number.{refusalPlain}
 use Rattle.refusal.specs.declared.Reason.{Reason}
-use Rattle.refusal.specs.declared.Reason.the-variants.{Picture, Room}
+use Rattle.refusal.specs.declared.Reason.the-variants.{Picture, Size, Room}
 use Rattle.refusal.specs.declared.Refusal.{Refusal}
 use Rattle.refusal.proofs.Laws.Chain.{require-passed, told}
 use Rattle.basics.specs.Below.{Bytes}
 use Rattle.basics.proofs.Laws.Below.{entry-below, append-below, take-below, drop-below}
 use Rattle.basics.proofs.Laws.Test.{both-left, both-right}
 use Rattle.rules.specs.Rules.{pictureRule, pictureClean}
-use Rattle.record.specs.Record.{recordOf, broken}
+use Rattle.record.specs.Record.{recordOf, broken, bytesOn}
 use Rattle.items.specs.Items.{Row, items, part}
 use Rattle.items.specs.declared.ItemPlace.{ItemPlace}
 use Rattle.items.specs.Item.{rowOf, refusedIn, itemRefusal, placeIn, placeOf, put, cleanIn, cleanOf, partIn, itemPart, putIn, putItem}
-use Rattle.record.specs.Stored.{itemLent, fitsIn, itemFits, putLeaves, storeRefusal, storeLeaves}
+use Rattle.record.specs.Stored.{itemLent, itemStart, putRefusedIn, putRefusal, putLeaves, storeRefusal, storeLeaves}
 use Rattle.refusal.specs.Checked.{checkedOf}
 use Rattle.refusal.specs.declared.Checked.{Checked}
 use Rattle.refusal.specs.declared.Checked.the-variants.{Passed, Refused}
 use Rattle.record.proofs.Laws.Put.{put-length, put-before, put-there, put-behind, put-back, before, behind}
 use Rattle.rules.proofs.Laws.Clean.{clean-length, clean-bytes, clean-again, clean-rule}
-use Rattle.record.proofs.Laws.Record.{runs, record-runs, record-current, record-next, record-reserved}
+use Rattle.record.proofs.Laws.Record.{runs, record-runs, record-length, record-idem, record-rules, record-current, record-next, record-reserved}
 
 -- ---- what is so of each row of a table
 
@@ -269,10 +269,14 @@ each-kept r (i ∷ is) b c =
 
 -- ---- a clean record: it keeps the rules, and is its own record
 
-pub record Clean (r : List ℕ) : Type 0 where
+pub record CleanRecord (r : List ℕ) : Type 0 where
   pub long : length r ≡ 248
   pub rules : broken items r ≡ none
   pub own : recordOf r ≡ r
+
+-- the record of bytes that keep the rules
+pub record-clean : (bytes : List ℕ) → length bytes ≡ 248 → broken items bytes ≡ none → CleanRecord (recordOf bytes)
+record-clean bytes n b = record { long = record-length bytes n; rules = record-rules bytes n ∙ b; own = record-idem bytes n }
 
 seam : (l : List ℕ) (s n : ℕ) → take n (drop s l) ++ drop (s + n) l ≡ drop s l
 seam l s n = rw (← drop-drop n s l) (take-append-drop n (drop s l))
@@ -300,7 +304,7 @@ module _ (r : List ℕ) (h : length r ≡ 248) where
 
 -- bytes that keep an item's rule, with nothing left to set to zero, put into its place in a clean record
 clean-put : (r new : List ℕ) (n : ℕ) (i : Row) → rowOf n items ≡ some i → Sits i → length new ≡ i .long → i .rule new ≡ true → i .clean new ≡ new
-    → Clean r → Clean (put r (start i) new)
+    → CleanRecord r → CleanRecord (put r (start i) new)
 clean-put r new n i e s l good settled c =
     let fits : end i ≤ length r = omega (arith, s .inside, c .long) in
     let at : start i + length new ≤ length r = omega arith in
@@ -327,21 +331,29 @@ by-row n P p f = go (rowOf n items) refl
 pub record Placed (p : ItemPlace) (o : Option Row) : Type 0 where
   pub row : Row
   pub is : o ≡ some row
+  pub counted : 1 ≤ p .first
   pub first : p .first ≡ row .first
   pub length : p .length ≡ row .long
+
+-- an answer is not both
+not-both : (why : Refusal) → Passed ≡ Refused why → ⊥
+not-both why e = let z : _≡_ {A = ℕ} 0 1 = cc in omega arith
 
 module _ (n : ℕ) (p : ItemPlace) (e : p ≡ placeOf n) where
   pub place-inside : p .first - 1 + p .length ≤ 43
   unfolding placeOf placeIn
   place-inside = rw e (by-row n (λ o. placeIn o .first - 1 + placeIn o .length ≤ 43) (omega arith) (λ i f s. s .inside))
 
-  pub no-place : p .first ≡ 0 → rowOf n items ≡ none
+  pub no-place : (why : Refusal) → p .checked ≡ Refused why → rowOf n items ≡ none
   unfolding placeOf placeIn
-  no-place = rw e (by-row n (λ o. placeIn o .first ≡ 0 → o ≡ none) (λ z. refl) (λ i f s z. absurd (omega (arith, s .counted))))
+  no-place why = rw e (by-row n (λ o. placeIn o .checked ≡ Refused why → o ≡ none) (λ z. refl) (λ i f s z. absurd (not-both why z)))
 
-  pub a-place : (p .first ≡ 0 → ⊥) → Placed p (rowOf n items)
+  pub a-place : p .checked ≡ Passed → Placed p (rowOf n items)
   unfolding placeOf placeIn
-  a-place = rw e (by-row n (λ o. (placeIn o .first ≡ 0 → ⊥) → Placed (placeIn o) o) (λ z. absurd (z refl)) (λ i f s z. record { row = i; is = refl; first = refl; length = refl }))
+  a-place =
+      rw e
+      (by-row n (λ o. placeIn o .checked ≡ Passed → Placed (placeIn o) o) (λ z. absurd (not-both _ (sym z)))
+      (λ i f s z. record { row = i; is = refl; counted = s .counted; first = refl; length = refl }))
 
 -- the bytes of an item, and what they are stored as, are as many as it has
 pub part-long : (n : ℕ) (r : List ℕ) → length r ≡ 248 → length (itemPart n r) ≡ placeOf n .length
@@ -388,10 +400,10 @@ module _ (n : ℕ) (r : List ℕ) (h : length r ≡ 248) where
       (λ i e s l. put-back r new (take (i .long) (drop (start i) r)) (start i) (omega (arith, s .inside)) (ap (λ (k : ℕ). take k (drop (start i) r)) (sym l)))
 
 -- accepted bytes, stored in a clean record, give a clean record
-pub store-clean : (n : ℕ) (bytes r : List ℕ) → itemRefusal n bytes ≡ none → Clean r → Clean (putItem n (cleanOf n bytes) r)
+pub store-clean : (n : ℕ) (bytes r : List ℕ) → itemRefusal n bytes ≡ none → CleanRecord r → CleanRecord (putItem n (cleanOf n bytes) r)
 unfolding itemRefusal refusedIn putItem putIn cleanOf cleanIn
 store-clean n bytes r =
-    by-row n (λ o. refusedIn bytes o ≡ none → Clean r → Clean (putIn (cleanIn bytes o) r o)) (λ a c. absurd (Option·some-ne-none _ a))
+    by-row n (λ o. refusedIn bytes o ≡ none → CleanRecord r → CleanRecord (putIn (cleanIn bytes o) r o)) (λ a c. absurd (Option·some-ne-none _ a))
     (λ i e s a c. let p = accepted-row bytes i a in clean-put r (i .clean bytes) n i e s (s .long bytes (p .0)) (s .rule bytes ∙ p .1) (s .again bytes) c)
 
 -- ---- what the calls on one item answer
@@ -404,9 +416,15 @@ lent-by n f l i bytes e ef el h =
     let k : f - 1 + l - (f - 1) ≡ l = omega arith in
     rw (k, ef, el, h, e)
 
-pub lent-part : (n : ℕ) (p : ItemPlace) (bytes : List ℕ) → p ≡ placeOf n → length bytes ≡ 248 → (p .first ≡ 0 → ⊥)
+pub lent-part : (n : ℕ) (p : ItemPlace) (bytes : List ℕ) → p ≡ placeOf n → length bytes ≡ 248 → p .checked ≡ Passed
     → take (p .first - 1 + p .length - (p .first - 1)) (drop (p .first - 1) bytes) ≡ itemLent n bytes
-lent-part n p bytes e h f = let a = a-place n p e f in lent-by n (p .first) (p .length) (a .row) bytes (a .is) (a .first) (a .length) h
+lent-part n p bytes e h c = let a = a-place n p e c in lent-by n (p .first) (p .length) (a .row) bytes (a .is) (a .first) (a .length) h
+
+-- and where it begins
+pub lent-start : (n : ℕ) (p : ItemPlace) (bytes : List ℕ) (at : ℕ × ℕ) → p ≡ placeOf n → length bytes ≡ 248
+    → bytesOn (p .first - 1) at ≡ bytesOn (itemStart n bytes) at
+unfolding itemStart
+lent-start n p bytes at e h = rw (e, eq-eqb (length bytes) 248 h)
 
 -- bytes laid over the item's place
 laid-by : (n f l : ℕ) (i : Row) (bytes old new : List ℕ) → rowOf n items ≡ some i → f ≡ i .first → l ≡ length bytes → new ≡ bytes
@@ -416,29 +434,35 @@ laid-by n f l i bytes old new e ef el s =
     let k : f - 1 + l - (f - 1) ≡ length bytes = omega arith in
     rw (k, ef, s, e, append-assoc, drop-drop (length bytes) (start i) old)
 
--- bytes that do not fit
+-- bytes that are refused
 module _ (n : ℕ) (p : ItemPlace) (bytes old : List ℕ) (e : p ≡ placeOf n) where
-  pub fits-none : p .first ≡ 0 → (false ≡ itemFits n bytes old) × (old ≡ putLeaves n bytes old)
-  unfolding itemFits fitsIn putLeaves
-  fits-none z = rw (no-place n p e z) (refl, refl)
+  none-put : (o : Option Row) (why : Refusal) → placeIn o .checked ≡ Refused why → (placeIn o .checked ≡ checkedOf (putRefusedIn bytes (length old) o)) × (old ≡ leftBy (putRefusedIn bytes (length old) o) (putIn bytes old o) old)
+  unfolding placeIn putRefusedIn
+  none-put none why z = (refl, refl)
+  none-put (some i) why z = absurd (not-both why z)
 
-  module _ (f : p .first ≡ 0 → ⊥) where
-    pub fits-size : (length bytes ≡ p .length → ⊥) → (false ≡ itemFits n bytes old) × (old ≡ putLeaves n bytes old)
-    unfolding itemFits fitsIn putLeaves
-    fits-size w = let a = a-place n p e f in simp (a .is, ne-eqb (length bytes) (a .row .long) (λ l. w (l ∙ sym (a .length)))) (refl, refl)
+  pub put-none : (why : Refusal) → p .checked ≡ Refused why → (p .checked ≡ checkedOf (putRefusal n bytes (length old))) × (old ≡ putLeaves n bytes old)
+  unfolding placeOf putRefusal putLeaves putItem
+  put-none why = rw e (none-put (rowOf n items) why)
+
+  module _ (c : p .checked ≡ Passed) where
+    pub put-size : (length bytes ≡ p .length → ⊥) → (Refused (refusalPlain Size) ≡ checkedOf (putRefusal n bytes (length old))) × (old ≡ putLeaves n bytes old)
+    unfolding putRefusal putRefusedIn putLeaves
+    put-size w = let a = a-place n p e c in simp (a .is, ne-eqb (length bytes) (a .row .long) (λ l. w (l ∙ sym (a .length)))) (refl, refl)
 
     module _ (l : length bytes ≡ p .length) where
-      pub fits-room : (length old ≡ 248 → ⊥) → (false ≡ itemFits n bytes old) × (old ≡ putLeaves n bytes old)
-      unfolding itemFits fitsIn putLeaves
-      fits-room w = let a = a-place n p e f in simp (a .is, eq-eqb (length bytes) (a .row .long) (l ∙ a .length), ne-eqb (length old) 248 w) (refl, refl)
+      pub put-room : (length old ≡ 248 → ⊥) → (Refused (refusalPlain Room) ≡ checkedOf (putRefusal n bytes (length old))) × (old ≡ putLeaves n bytes old)
+      unfolding putRefusal putRefusedIn putLeaves
+      put-room w = let a = a-place n p e c in simp (a .is, eq-eqb (length bytes) (a .row .long) (l ∙ a .length), ne-eqb (length old) 248 w) (refl, refl)
 
-      -- and those that do
-      pub fits-all : (new : List ℕ) → length old ≡ 248 → new ≡ bytes → (true ≡ itemFits n bytes old) × (putMid (p .first - 1) (p .first - 1 + p .length - (p .first - 1)) old new ≡ putLeaves n bytes old)
-      unfolding itemFits fitsIn putLeaves
-      fits-all new h s =
-          let a = a-place n p e f in
-          let t : itemFits n bytes old ≡ true = simp (a .is, eq-eqb (length bytes) (a .row .long) (l ∙ a .length), h) in
-          (sym t, laid-by n (p .first) (p .length) (a .row) bytes old new (a .is) (a .first) (sym l) s ∙ rw t)
+      -- and those that are not
+      pub put-all : (new : List ℕ) → length old ≡ 248 → new ≡ bytes
+          → (Passed ≡ checkedOf (putRefusal n bytes (length old))) × (putMid (p .first - 1) (p .first - 1 + p .length - (p .first - 1)) old new ≡ putLeaves n bytes old)
+      unfolding putRefusal putRefusedIn putLeaves
+      put-all new h s =
+          let a = a-place n p e c in
+          let t : putRefusal n bytes (length old) ≡ none = simp (a .is, eq-eqb (length bytes) (a .row .long) (l ∙ a .length), h) in
+          (sym (ap checkedOf t), laid-by n (p .first) (p .length) (a .row) bytes old new (a .is) (a .first) (sym l) s ∙ rw t)
 
 -- what is stored of a picture mode, and of another item
 pub mode-stored : (n : ℕ) (bytes : List ℕ) → itemRefusal n bytes ≡ none → isMode n ≡ true → (length bytes ≡ 4) × (pictureClean bytes ≡ cleanOf n bytes)
@@ -455,18 +479,18 @@ plain-stored n bytes m =
     by-row n (λ o. bytes ≡ cleanIn bytes o) refl
     (λ i e s. sym (s .plain (ap isMode (sym (number-found items n i e)) ∙ m) bytes))
 
--- accepted bytes fit
-clean-fits : (n : ℕ) (bytes old : List ℕ) → length old ≡ 248 → itemRefusal n bytes ≡ none → itemFits n (cleanOf n bytes) old ≡ true
-unfolding itemRefusal refusedIn itemFits fitsIn cleanOf cleanIn
-clean-fits n bytes old h =
-    by-row n (λ o. refusedIn bytes o ≡ none → fitsIn (cleanIn bytes o) old o ≡ true) (λ a. absurd (Option·some-ne-none _ a))
-    (λ i e s a. rw (s .long bytes (accepted-row bytes i a .0), h) (ap (λ (t : Bool). t && true) (eq-eqb (i .long) (i .long) refl)))
+-- accepted bytes are put wherever there is room
+clean-put-refusal : (n : ℕ) (bytes : List ℕ) (room : ℕ) → itemRefusal n bytes ≡ none → putRefusal n (cleanOf n bytes) room ≡ require (eqb room 248) (refusalPlain Room) none
+unfolding itemRefusal refusedIn putRefusal putRefusedIn cleanOf cleanIn
+clean-put-refusal n bytes room =
+    by-row n (λ o. refusedIn bytes o ≡ none → putRefusedIn (cleanIn bytes o) room o ≡ require (eqb room 248) (refusalPlain Room) none) (λ a. absurd (Option·some-ne-none _ a))
+    (λ i e s a. rw (eq-eqb (length (i .clean bytes)) (i .long) (s .long bytes (accepted-row bytes i a .0))))
 
 -- as many bytes as the item has are put into its place
 pub leaves-put : (n : ℕ) (new old : List ℕ) → length new ≡ placeOf n .length → length old ≡ 248 → putLeaves n new old ≡ putItem n new old
-unfolding placeOf placeIn putLeaves itemFits fitsIn putItem putIn
+unfolding placeOf placeIn putLeaves putRefusal putRefusedIn putItem putIn
 leaves-put n new old l h =
-    by-row n (λ o. length new ≡ placeIn o .length → cond (fitsIn new old o) (putIn new old o) old ≡ putIn new old o) (λ z. refl)
+    by-row n (λ o. length new ≡ placeIn o .length → leftBy (putRefusedIn new (length old) o) (putIn new old o) old ≡ putIn new old o) (λ z. refl)
     (λ i e s z. simp (eq-eqb (length new) (i .long) z, h)) l
 
 -- bytes stored among bytes
@@ -497,12 +521,11 @@ module _ (n : ℕ) (bytes old : List ℕ) (said : Checked) (e : said ≡ checked
     pub accepted : itemRefusal n bytes ≡ none
     accepted = told (itemRefusal n bytes) said Passed e s
 
-    pub store-room : (length old ≡ 248 → ⊥)
-        → (Refused (refusalPlain Room) ≡ checkedOf (storeRefusal n bytes (length old))) × (old ≡ storeLeaves n bytes old)
-    unfolding storeRefusal storeLeaves
-    store-room w = simp (accepted, ne-eqb (length old) 248 w) (refl, refl)
-
-    pub store-done : (new left : List ℕ) → length old ≡ 248 → new ≡ cleanOf n bytes → left ≡ putLeaves n new old
-        → (Passed ≡ checkedOf (storeRefusal n bytes (length old))) × (left ≡ storeLeaves n bytes old)
+    -- what is put answers for the room
+    pub store-put : (new left : List ℕ) (put-said : Checked) → new ≡ cleanOf n bytes → put-said ≡ checkedOf (putRefusal n new (length old)) → left ≡ putLeaves n new old
+        → (put-said ≡ checkedOf (storeRefusal n bytes (length old))) × (left ≡ storeLeaves n bytes old)
     unfolding storeRefusal storeLeaves putLeaves
-    store-done new left h c l = simp (accepted, h) (refl, l ∙ rw (c, clean-fits n bytes old h accepted))
+    store-put new left put-said c p l =
+        let q : putRefusal n new (length old) ≡ storeRefusal n bytes (length old) =
+        ap (λ (b : List ℕ). putRefusal n b (length old)) c ∙ clean-put-refusal n bytes (length old) accepted ∙ sym (rw accepted) in
+        (p ∙ ap checkedOf q, l ∙ ap₂ (λ (o : Option Refusal) (b : List ℕ). leftBy o (putItem n b old) old) q c)

@@ -1,10 +1,8 @@
--- `record::store_item` meets its contract: each return is one case of the chain of refusals, and what is put in the item's place is what its
--- bytes are stored as.
+-- `record::store_item` meets its contract: the check of the item comes first, and what is put in the item's place is what its bytes are stored as.
 -- Assumes nothing.
 use mathlib.Core.Path.{sym, ap, _∙_}
-use Rattle.refusal.specs.declared.Checked.the-variants.{Refused}
-use Rattle.rules.proofs.Laws.Rules.{long-clean}
-use Rattle.record.proofs.Laws.Stored.{mode-stored, plain-stored, store-refused, accepted, store-room, store-done}
+use Rattle.rules.specs.Rules.{pictureClean}
+use Rattle.record.proofs.Laws.Stored.{mode-stored, plain-stored, store-refused, accepted, store-put}
 use borrow.Author.Needs.{needs}
 use Rattle.record.proofs.store_item.Statement.{statement}
 use Rattle.record.proofs.store_item.Tie as tie
@@ -15,37 +13,40 @@ returns c =
     let a = k .before .before .before .args in
     store-refused (a .number) (a .bytes .now) (a .out .now) (k .item-refusal .result) (k .item-refusal .ensures) _ (c .before .checked .given .1)
 
-returns-2 : tie.Need-returns-2
-returns-2 c =
-    let t = c .before .before in
+mode-requires : tie.Need-mode-requires
+mode-requires c κs =
+    let i = c .before in
+    let t = i .before in
     let k = t .before .before in
     let a = k .before .before .before .args in
-    let A = store-room (a .number) (a .bytes .now) (a .out .now) (k .item-refusal .result) (k .item-refusal .ensures) (t .enum-told .given .1) (c .before .if1 .taken) in
-    (ap Refused (c .plain .ensures) ∙ A .0, A .1)
+    mode-stored (a .number) (a .bytes .now) (accepted (a .number) (a .bytes .now) (a .out .now) (k .item-refusal .result) (k .item-refusal .ensures) (t .enum-told .given .1))
+    (sym (i .is-picture .ensures) ∙ c .if1 .taken) .0
+
+returns-2 : tie.Need-returns-2
+returns-2 c =
+    let p = c .before .before in
+    let m = p .before .before .before in
+    let o = m .before in
+    let i = o .before .before in
+    let t = i .before in
+    let k = t .before .before in
+    let a = k .before .before .before .args in
+    let s = t .enum-told .given .1 in
+    let A = accepted (a .number) (a .bytes .now) (a .out .now) (k .item-refusal .result) (k .item-refusal .ensures) s in
+    let M = mode-stored (a .number) (a .bytes .now) A (sym (i .is-picture .ensures) ∙ o .before .if1 .taken) in
+    store-put (a .number) (a .bytes .now) (a .out .now) (k .item-refusal .result) (k .item-refusal .ensures) s (m .picture-clean .result) _ (p .put-item .result)
+    (m .picture-clean .ensures ∙ ap pictureClean (o .mode .ensures) ∙ M .1) (p .put-item .ensures .0) (p .put-item .ensures .1)
 
 returns-3 : tie.Need-returns-3
 returns-3 c =
     let p = c .before .before in
-    let m = p .before .before .before in
-    let i = m .before .before in
-    let t = i .before .before in
-    let k = t .before .before in
-    let a = k .before .before .before .args in
-    let A = accepted (a .number) (a .bytes .now) (a .out .now) (k .item-refusal .result) (k .item-refusal .ensures) (t .enum-told .given .1) in
-    let M = mode-stored (a .number) (a .bytes .now) A (sym (i .is-picture .ensures) ∙ m .before .if2 .taken) in
-    store-done (a .number) (a .bytes .now) (a .out .now) (k .item-refusal .result) (k .item-refusal .ensures) (t .enum-told .given .1)
-    (m .picture-clean .result) _ (i .before .if1 .left) (m .picture-clean .ensures ∙ long-clean (a .bytes .now) (M .0) ∙ M .1) (p .put-item .ensures .1)
-
-returns-4 : tie.Need-returns-4
-returns-4 c =
-    let p = c .before .before in
     let e = p .before .before in
     let i = e .before in
-    let t = i .before .before in
+    let t = i .before in
     let k = t .before .before in
     let a = k .before .before .before .args in
-    store-done (a .number) (a .bytes .now) (a .out .now) (k .item-refusal .result) (k .item-refusal .ensures) (t .enum-told .given .1)
-    (a .bytes .now) _ (i .before .if1 .left) (plain-stored (a .number) (a .bytes .now) (sym (i .is-picture .ensures) ∙ e .if2 .left)) (p .put-item2 .ensures .1)
+    store-put (a .number) (a .bytes .now) (a .out .now) (k .item-refusal .result) (k .item-refusal .ensures) (t .enum-told .given .1) (a .bytes .now) _ (p .put-item2 .result)
+    (plain-stored (a .number) (a .bytes .now) (sym (i .is-picture .ensures) ∙ e .if1 .left)) (p .put-item2 .ensures .0) (p .put-item2 .ensures .1)
 
 pub store-item-spec : {M : Type 1} → statement M
 store-item-spec =
@@ -56,13 +57,12 @@ store-item-spec =
     returns
     (λ c. search needs)
     (λ c κs. search needs)
+    mode-requires
+    (λ c κs. search needs)
+    (λ c. search needs)
+    (λ c κs. search needs)
+    (λ c. search needs)
     returns-2
     (λ c κs. search needs)
-    (λ c κs. search needs)
     (λ c. search needs)
-    (λ c κs. search needs)
-    (λ c. search needs)
-    returns-3
-    (λ c κs. search needs)
-    (λ c. search needs)
-    returns-4)
+    returns-3)

@@ -1,10 +1,8 @@
 -- `record::write_record` meets its contract: the record is the bytes with the two picture modes and the zeros written over them.
 -- Assumes nothing.
-use mathlib.Core.Path.{_≡_, sym, _∙_}
-use native.Mathlib.Omega.{arith}
-use lib.ListN.{length}
-use Rattle.basics.proofs.Laws.Parts.{run-length}
-use Rattle.rules.proofs.Laws.Rules.{long-clean}
+use mathlib.Core.Path.{sym, ap, _∙_}
+use Rattle.refusal.specs.Checked.{checkedOf}
+use Rattle.rules.specs.Rules.{pictureClean}
 use Rattle.record.proofs.Laws.Record.{unwritten-bytes, unwritten-room, record-fits, record-written}
 use borrow.Author.Needs.{needs}
 use Rattle.record.proofs.write_record.Statement.{statement}
@@ -12,15 +10,14 @@ use Rattle.record.proofs.write_record.Tie as tie
 
 returns : tie.Need-returns
 returns c =
-    let a = c .before .before .before .args in
-    let e = unwritten-bytes (a .bytes .now) (a .out .now) (c .if1 .taken) in
-    (sym (e .0), sym (e .1))
+    let a = c .before .before .before .before .args in
+    rw (c .plain .ensures) (unwritten-bytes (a .bytes .now) (a .out .now) (c .before .if1 .taken))
 
 returns-2 : tie.Need-returns-2
 returns-2 c =
-    let a = c .before .before .before .before .args in
-    let e = unwritten-room (a .bytes .now) (a .out .now) (omega arith) (c .if2 .taken) in
-    (sym (e .0), sym (e .1))
+    let e = c .before .before in
+    let a = e .before .before .before .args in
+    rw (c .plain2 .ensures) (unwritten-room (a .bytes .now) (a .out .now) (e .if1 .left) (c .before .if2 .taken))
 
 returns-3 : tie.Need-returns-3
 returns-3 c =
@@ -29,15 +26,16 @@ returns-3 c =
     let m = n .before .before .before .before .before in
     let w = m .before .before .before .before .before in
     let q = w .before .before in
-    let p = q .before .before in
-    let a = p .before .before .before .before .before .before .args in
-    let h : length (a .bytes .now) ≡ 248 = omega arith in
-    let o : length (a .out .now) ≡ 248 = omega arith in (
-      sym (record-fits (a .bytes .now) (a .out .now) h o),
+    let p = q .before .before .before in
+    let f = p .before .before .before in
+    let a = f .before .before .before .before .args in
+    let h = f .before .if1 .left in
+    let o = f .if2 .left in (
+      sym (ap checkedOf (record-fits (a .bytes .now) (a .out .now) h o)),
       record-written (a .bytes .now) (a .out .now) h o _ _ _ _
           (w .copy .ensures)
-          (m .copy2 .ensures ∙ p .picture-clean .ensures ∙ long-clean _ (run-length (a .bytes .now) 17 4 (omega arith)))
-          (n .copy3 .ensures ∙ q .picture-clean2 .ensures ∙ long-clean _ (run-length (a .bytes .now) 21 4 (omega arith)))
+          (m .copy2 .ensures ∙ p .picture-clean .ensures ∙ ap pictureClean (p .before .mode .ensures))
+          (n .copy3 .ensures ∙ q .picture-clean2 .ensures ∙ ap pictureClean (q .before .mode2 .ensures))
           (z .copy4 .ensures),
     )
 
@@ -45,15 +43,19 @@ pub write-record-spec : {M : Type 1} → statement M
 write-record-spec =
     tie.close
     (tie.spec
+    (λ c κs. search needs)
     returns
+    (λ c κs. search needs)
     returns-2
     (λ c. search needs)
     (λ c. search needs)
     (λ c. search needs)
     (λ c κs. search needs)
+    (λ c κs. search needs)
     (λ c. search needs)
     (λ c. search needs)
     (λ c. search needs)
+    (λ c κs. search needs)
     (λ c κs. search needs)
     (λ c κs. search needs)
     (λ c. search needs)

@@ -1,14 +1,18 @@
--- Chains of checks: one that refuses nothing has passed each of them, and one that goes on by `then` is the chain of the definitions.
+-- Chains of checks: one that refuses nothing has passed each of them, which check gives a refusal, and one that goes on by `then` is the
+-- chain of the definitions.
 -- Assumes nothing.
 use mathlib.Core.Path.{_≡_, refl, sym, ap, _∙_}
-use mathlib.Core.Bool.{Bool, true, false, not}
+use mathlib.Core.Bool.{Bool, true, false, not, false≢true}
 use mathlib.Core.Option.{Option, none, some, Option·some-ne-none}
-use borrow.Author.Tests.{not-true, not-false}
+use mathlib.Core.Logic.{_↔_}
+use lib.Dec.{eqb}
+use borrow.Author.Tests.{not-true, not-false, eq-eqb}
 use Rattle.refusal.specs.Chain.{require, passed, next}
 use Rattle.refusal.specs.Checked.{checkedOf, refusalIn}
 use Rattle.refusal.specs.declared.Checked.{Checked}
 use Rattle.refusal.specs.declared.Checked.the-variants.{Passed, Refused}
 use Rattle.refusal.specs.declared.Refusal.{Refusal}
+use Rattle.refusal.specs.Number.{numberOf}
 
 -- ---- a chain that refuses nothing
 
@@ -19,6 +23,33 @@ require-passed false why rest e = absurd (Option·some-ne-none why e)
 pub next-passed : (first rest : Option Refusal) → next first rest ≡ none → (first ≡ none) × (rest ≡ none)
 next-passed none rest e = (refl, e)
 next-passed (some why) rest e = absurd (Option·some-ne-none why e)
+
+-- ---- which check gives a refusal
+
+pub passed-other : (why : Refusal) → passed ≡ some why → ⊥
+passed-other why e = Option·some-ne-none why (sym e)
+
+-- not one whose refusal has another number: what stands behind it does
+pub require-other : (t : Bool) (other why : Refusal) (rest : Option Refusal) → require t other rest ≡ some why
+    → eqb (numberOf (other .reason)) (numberOf (why .reason)) ≡ false → rest ≡ some why
+require-other true other why rest e d = e
+require-other false other why rest e d =
+    let same : other ≡ why = cc in
+    absurd (false≢true (sym d ∙ eq-eqb _ _ (ap (λ (r : Refusal). numberOf (r .reason)) same)))
+
+-- where what stands behind it does not, a check gives its refusal exactly when its test fails
+pub require-gives : (t : Bool) (why : Refusal) (rest : Option Refusal) → (rest ≡ some why → ⊥) → (require t why rest ≡ some why) ↔ (t ≡ false)
+require-gives true why rest n = (λ e. absurd (n e), λ e. absurd (false≢true (sym e)))
+require-gives false why rest n = (λ e. refl, λ e. refl)
+
+pub next-gives : (first rest : Option Refusal) (why : Refusal) → (rest ≡ some why → ⊥) → (next first rest ≡ some why) ↔ (first ≡ some why)
+next-gives none rest why n = (λ e. absurd (n e), λ e. absurd (passed-other why e))
+next-gives (some no′) rest why n = (λ e. e, λ e. e)
+
+-- a check that fails does so whatever follows it
+pub require-refused : (t : Bool) (w why : Refusal) (rest : Option Refusal) → require t w passed ≡ some why → require t w rest ≡ some why
+require-refused true w why rest e = absurd (Option·some-ne-none why (sym e))
+require-refused false w why rest e = e
 
 -- ---- an answer tells its refusal
 

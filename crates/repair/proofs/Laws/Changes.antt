@@ -12,7 +12,11 @@ use lib.Seq.{take-all}
 use Rattle.rs.specs.Decode.{changes}
 use Rattle.rs.proofs.Laws.Distance.{differ, place, differ-le, differ-same}
 use Rattle.anc.specs.Words.{lowBytes, soundWords}
-use Rattle.repair.specs.Protected.{changedOf}
+use Rattle.refusal.specs.Number.{refusalPlain}
+use Rattle.refusal.specs.declared.Reason.the-variants.{Size}
+use Rattle.repair.specs.declared.Repaired.the-variants.{Fixed, Refused}
+use Rattle.repair.specs.Protected.{countRefusal}
+use Rattle.repair.specs.Repair.{countedOf}
 
 -- ---- the places in which two lists differ
 
@@ -57,14 +61,14 @@ low-changes (x ∷ a) (y ∷ b) = omega (arith, low-differ x y, low-changes a b)
 -- ---- words against bytes, 254 of each
 
 module _ (words bytes : List ℕ) where
-  pub few-words : (length words ≡ 254 → ⊥) → 0 ≡ changedOf words bytes
-  unfolding changedOf
+  pub few-words : (length words ≡ 254 → ⊥) → Refused (refusalPlain Size) ≡ countedOf words bytes
+  unfolding countedOf countRefusal
   few-words n = rw (ne-eqb (length words) 254 n)
 
-  pub few-bytes : length words ≡ 254 → (length bytes ≡ 254 → ⊥) → 0 ≡ changedOf words bytes
-  unfolding changedOf
+  pub few-bytes : length words ≡ 254 → (length bytes ≡ 254 → ⊥) → Refused (refusalPlain Size) ≡ countedOf words bytes
+  unfolding countedOf countRefusal
   few-bytes h n = rw (eq-eqb (length words) 254 h, ne-eqb (length bytes) 254 n)
 
-  pub changed-words : length words ≡ 254 → length bytes ≡ 254 → changes words (soundWords bytes) ≡ changedOf words bytes
-  unfolding changedOf
-  changed-words h k = rw (eq-eqb (length words) 254 h, eq-eqb (length bytes) 254 k)
+  pub counted-words : length words ≡ 254 → length bytes ≡ 254 → Fixed (changes words (soundWords bytes)) ≡ countedOf words bytes
+  unfolding countedOf countRefusal
+  counted-words h k = rw (eq-eqb (length words) 254 h, eq-eqb (length bytes) 254 k)

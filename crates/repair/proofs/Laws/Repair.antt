@@ -1,4 +1,4 @@
--- The law of repair: what was sent is recovered where at most three words changed, and every changed word is counted. And the
+-- The law of repair: what was sent is recovered where at most three bytes changed, and every word that differs is counted. And the
 -- lengths, bounds and soundness of what repair writes.
 -- Assumes nothing.
 use mathlib.Core.Path.{_≡_, refl, sym, ap, _∙_}
@@ -10,22 +10,24 @@ use native.Mathlib.Omega.{arith}
 use borrow.Author.Tests.{eq-eqb, ne-eqb}
 use lib.ListN.{length, getD}
 use Rattle.anc.specs.Word.{isSound}
-use Rattle.rs.specs.Codeword.{Codeword}
 use Rattle.basics.specs.Below.{Bytes}
-use Rattle.rs.specs.Decode.{changes, decode, given, repairable, repaired}
-use Rattle.rs.proofs.Laws.Distance.{changes-sym, changes-le-length}
-use Rattle.rs.proofs.Laws.Decode.{Within, decode-sound, decode-complete}
-use Rattle.refusal.specs.Chain.{leftBy}
+use Rattle.rs.specs.Decode.{changes, Within, decode, given, repairable, repaired, decodeRefusal}
+use Rattle.rs.proofs.Laws.Distance.{changes-le-length}
+use Rattle.rs.proofs.Laws.Decode.{decode-sound, decode-complete, decode-decides}
+use Rattle.refusal.specs.Chain.{require, passed, leftBy}
+use Rattle.refusal.specs.Checked.{checkedOf, refusalIn as refusalInCheck}
+use Rattle.refusal.specs.declared.Checked.{Checked}
+use Rattle.refusal.specs.declared.Checked.the-variants.{Passed, Refused as NotPassed}
+use Rattle.refusal.proofs.Laws.Chain.{require-passed, require-refused, told}
 use Rattle.refusal.specs.Number.{refusalPlain}
 use Rattle.refusal.specs.declared.Reason.the-variants.{Size, Wide, BeyondRepair, Room}
 use Rattle.refusal.specs.declared.Refusal.{Refusal}
 use Rattle.repair.specs.declared.Repaired.{Repaired}
 use Rattle.repair.specs.declared.Repaired.the-variants.{Fixed, Refused}
-use Rattle.repair.specs.Protected.{rewritten, fixedOf, repairRefusal}
+use Rattle.repair.specs.Protected.{rewritten, fixedOf, countRefusal, repairRefusal}
 use Rattle.anc.specs.Words.{lowBytes, soundWords, narrow}
-use Rattle.repair.specs.Repair.{refusalIn, fixedIn, repairedBy, repairedOf, repairLeaves}
-use Rattle.repair.proofs.Laws.Changes.{low-changes}
-use Rattle.anc.proofs.Laws.Words.{lowBytes-length, soundWords-length, low-bytes, low-words, sound-at}
+use Rattle.repair.specs.Repair.{refusalIn, fixedIn, repairedBy, repairedOf, countedOf, repairLeaves}
+use Rattle.anc.proofs.Laws.Words.{lowBytes-length, soundWords-length, low-bytes, sound-at}
 
 -- ---- repaired bytes
 
@@ -75,14 +77,9 @@ decoded c words e =
     let sent : rewritten words ≡ soundWords c = ap (λ (o : Option (List ℕ)). soundWords (Option·getD o (lowBytes words))) e in
     record { readable = ap given e; recovered = sent; counted = ap (changes words) sent }
 
--- at most three words changed
-pub repair-recovers : (c words : List ℕ) → Codeword c → length words ≡ 254 → changes words (soundWords c) ≤ 3 → Recovered words (soundWords c)
-repair-recovers c words C n h =
-    let sent : lowBytes (soundWords c) ≡ c = low-words c (C .bytes) in
-    let few : changes (lowBytes words) (lowBytes (soundWords c)) ≤ 3 = omega (arith, low-changes words (soundWords c)) in
-    let near : changes (lowBytes words) c ≤ 3 = rw sent at few in
-    decoded c words
-    (decode-complete (lowBytes words) c C (C .long ∙ sym n ∙ sym (lowBytes-length words)) (rw (changes-sym c (lowBytes words)) near))
+-- at most three bytes changed, and any upper bits
+pub repair-recovers : (c words : List ℕ) → Within (lowBytes words) c → Recovered words (soundWords c)
+repair-recovers c words W = decoded c words (decode-complete (lowBytes words) c (W .word) (W .long) (W .near))
 
 -- ---- the answer of repair
 
@@ -108,10 +105,18 @@ module _ (words old : List ℕ) where
   unfolding repairRefusal
   too-wide n w = answer words old (some (refusalPlain Wide)) (simp (eq-eqb (length words) 254 n, w))
 
-  pub beyond-repair : length words ≡ 254 → narrow words ≡ true → repairable (lowBytes words) ≡ false
-      → Answer words old (Refused (refusalPlain BeyondRepair)) old
-  unfolding repairRefusal
-  beyond-repair n w r = answer words old (some (refusalPlain BeyondRepair)) (simp (eq-eqb (length words) 254 n, w, r))
+  -- by what the search for a codeword answered
+  module _ (near : Checked) (n : length words ≡ 254) (e : near ≡ checkedOf (decodeRefusal (lowBytes words))) where
+    near-said : (a : Checked) → near ≡ a → require (repairable (lowBytes words)) (refusalPlain BeyondRepair) passed ≡ refusalInCheck a
+    near-said a s = sym (decode-decides (lowBytes words) (lowBytes-length words ∙ n)) ∙ told (decodeRefusal (lowBytes words)) near a e s
+
+    pub beyond-repair : (why : Refusal) → narrow words ≡ true → near ≡ NotPassed why → Answer words old (Refused why) old
+    unfolding repairRefusal
+    beyond-repair why w s =
+        answer words old (some why) (simp (eq-eqb (length words) 254 n, w) (require-refused (repairable (lowBytes words)) _ why _ (near-said (NotPassed why) s)))
+
+    pub within-repair : near ≡ Passed → repairable (lowBytes words) ≡ true
+    within-repair s = require-passed (repairable (lowBytes words)) _ passed (near-said Passed s) .0
 
   pub wrong-room : length words ≡ 254 → narrow words ≡ true → repairable (lowBytes words) ≡ true → (length old ≡ 254 → ⊥)
       → Answer words old (Refused (refusalPlain Room)) old
@@ -124,23 +129,27 @@ module _ (words old : List ℕ) where
   all-right n w r m = answer words old none (simp (eq-eqb (length words) 254 n, w, r, eq-eqb (length old) 254 m))
 
 -- the refusal that an answer tells is the one that the rules give
+said-by : (o : Option Refusal) (n : ℕ) → refusalIn (repairedBy o n) ≡ o
+said-by none n = refl
+said-by (some why) n = refl
+
 pub refusal-said : (words : List ℕ) (room : ℕ) → refusalIn (repairedOf words room) ≡ repairRefusal words room
 unfolding repairedOf
-refusal-said words room = go (repairRefusal words room)
-  where
-    go : (o : Option Refusal) → refusalIn (repairedBy o (fixedOf words)) ≡ o
-    go none = refl
-    go (some why) = refl
+refusal-said words room = said-by (repairRefusal words room) (fixedOf words)
+
+pub count-said : (words bytes : List ℕ) → refusalIn (countedOf words bytes) ≡ countRefusal words bytes
+unfolding countedOf
+count-said words bytes = said-by (countRefusal words bytes) (changes words (soundWords bytes))
 
 -- where they give none it tells how many words were fixed
 pub fixed-said : (words : List ℕ) (room : ℕ) → repairRefusal words room ≡ none → fixedIn (repairedOf words room) ≡ some (fixedOf words)
 unfolding repairedOf
 fixed-said words room e = ap (λ (o : Option Refusal). fixedIn (repairedBy o (fixedOf words))) e
 
--- words of ten bits of which at most three changed, into room for them: the answer is how many, and what was sent is left
-pub repair-answers : (c words old : List ℕ) → Codeword c → length words ≡ 254 → narrow words ≡ true → changes words (soundWords c) ≤ 3
-    → length old ≡ 254 → (repairedOf words 254 ≡ Fixed (changes words (soundWords c))) × (repairLeaves words old ≡ soundWords c)
-repair-answers c words old C n w h m =
-    let R = repair-recovers c words C n h in
-    let A = all-right words old n w (R .readable) m in
-    (ap (repairedOf words) (sym m) ∙ sym (A .right) ∙ ap Fixed (R .counted), sym (A .kept) ∙ R .recovered)
+-- words of ten bits of which at most three bytes changed, into room for them: the answer is how many words differ, and what was sent is left
+pub repair-answers : (c words old : List ℕ) → Within (lowBytes words) c → narrow words ≡ true → length old ≡ 254
+    → (repairedOf words (length old) ≡ Fixed (changes words (soundWords c))) × (repairLeaves words old ≡ soundWords c)
+repair-answers c words old W w m =
+    let R = repair-recovers c words W in
+    let A = all-right words old (sym (lowBytes-length words) ∙ sym (W .long) ∙ W .word .long) w (R .readable) m in
+    (sym (A .right) ∙ ap Fixed (R .counted), sym (A .kept) ∙ R .recovered)

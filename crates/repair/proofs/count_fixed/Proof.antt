@@ -1,7 +1,7 @@
 -- `repair::count_fixed` meets its contract. The loop's invariant: the count is that of the first `i` places. The measure is
 -- what is left of the length.
 -- Assumes nothing.
-use mathlib.Core.Path.{_≡_, refl, sym, _∙_}
+use mathlib.Core.Path.{_≡_, refl, sym, ap, _∙_}
 use mathlib.Core.Logic.{⊎-elim}
 use mathlib.Core.List.{List}
 use Prim.Native.Nat.{ℕ, _≤_, _<_, _-_}
@@ -10,7 +10,8 @@ use borrow.Author.Needs.{needs}
 use lib.ListN.{length, take, getD}
 use Rattle.rs.specs.Decode.{changes}
 use Rattle.anc.specs.Words.{soundWords}
-use Rattle.repair.proofs.Laws.Changes.{changes-alike, changes-apart, changes-all, few-words, few-bytes, changed-words}
+use Rattle.repair.specs.declared.Repaired.the-variants.{Fixed}
+use Rattle.repair.proofs.Laws.Changes.{changes-alike, changes-apart, changes-all, few-words, few-bytes, counted-words}
 use Rattle.anc.proofs.Laws.Words.{soundWords-length, soundWords-at}
 use Rattle.repair.proofs.count_fixed.Statement.{statement}
 use Rattle.repair.proofs.count_fixed.Tie as tie
@@ -22,10 +23,13 @@ abbrev μ-loop : tie.MeasureT-loop
 μ-loop words bytes fixed₀ i₀ fixed i = length words - i
 
 returns : tie.Need-returns Inv-loop μ-loop
-returns c = let a = c .before .before .before .args in few-words (a .words .now) (a .bytes .now) (c .if1 .taken)
+returns c = let a = c .before .before .before .before .args in rw (c .plain .ensures) (few-words (a .words .now) (a .bytes .now) (c .before .if1 .taken))
 
 returns-2 : tie.Need-returns-2 Inv-loop μ-loop
-returns-2 c = let a = c .before .before .before .before .args in few-bytes (a .words .now) (a .bytes .now) (c .before .if1 .left) (c .if2 .taken)
+returns-2 c =
+    let e = c .before .before in
+    let a = e .before .before .before .args in
+    rw (c .plain2 .ensures) (few-bytes (a .words .now) (a .bytes .now) (e .if1 .left) (c .before .if2 .taken))
 
 loop-holds : tie.Need-loop-holds Inv-loop μ-loop
 unfolding changes
@@ -55,8 +59,8 @@ returns-3 c =
     let a = e .before .before .before .before .args in
     let ws : List ℕ = a .words .now in
     let bs : List ℕ = a .bytes .now in
-    l .inv .2 ∙ changes-all ws (soundWords bs) (l .i) (omega arith) (omega (arith, soundWords-length bs, e .if2 .left))
-    ∙ changed-words ws bs (e .before .if1 .left) (e .if2 .left)
+    ap Fixed (l .inv .2 ∙ changes-all ws (soundWords bs) (l .i) (omega arith) (omega (arith, soundWords-length bs, e .if2 .left)))
+    ∙ counted-words ws bs (e .before .if1 .left) (e .if2 .left)
 
 pub count-fixed-spec : {M : Type 1} → statement M
 count-fixed-spec =
@@ -64,7 +68,9 @@ count-fixed-spec =
     (tie.spec
     Inv-loop
     μ-loop
+    (λ c κs. search needs)
     returns
+    (λ c κs. search needs)
     returns-2
     loop-holds
     (λ c. search needs)

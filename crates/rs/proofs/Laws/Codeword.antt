@@ -9,12 +9,18 @@ use native.Mathlib.Omega.{arith}
 use lib.ListN.{length, take, drop, length-append, length-drop, length-replicate, take-append-drop}
 use lib.Seq.{drop-at, length-take-le}
 use borrow.Author.Tests.{eq-eqb, ne-eqb}
+use Rattle.refusal.specs.Checked.{checkedOf}
+use Rattle.refusal.specs.Number.{refusalPlain}
+use Rattle.refusal.specs.declared.Checked.{Checked}
+use Rattle.refusal.specs.declared.Checked.the-variants.{Passed, Refused}
+use Rattle.refusal.specs.declared.Reason.the-variants.{Size}
 use Rattle.gf256.specs.Field.{_⊕_, _⊗_, pow}
 use Rattle.gf256.proofs.Laws.Sum.{⊕-self, ⊕-zero-l}
 use Rattle.gf256.proofs.Laws.Product.{⊗-zero-r}
 use Rattle.basics.proofs.Laws.Test.{lt-or-le}
 use Rattle.rs.specs.Polynomial.{valueAt, _⊞_, zeros, _⊠_}
-use Rattle.rs.specs.Codeword.{G, parityOf, leftOf, Codeword}
+use Rattle.rs.specs.Codeword.{G, parityOf, leftOf, blockRefusal, dividedOf, Codeword}
+use Rattle.rs.specs.declared.Divided.{Divided}
 use Rattle.basics.specs.Below.{Bytes}
 use Rattle.rs.specs.Decode.{changes}
 use Rattle.rs.proofs.Laws.Polynomial.{⊞-self, ⊞-zero-eq, value-⊞, value-append, value-above, value-moved, length-⊠, value-⊠}
@@ -59,6 +65,20 @@ left-short l n = rw (ne-eqb _ _ n) refl
 pub left-long : (l : List ℕ) → length l ≡ 254 → leftOf l ≡ parityOf (take 248 l) ⊞ drop 248 l
 unfolding leftOf
 left-long l n = rw (eq-eqb _ _ n) refl
+
+-- what a division answers
+module _ (l : List ℕ) where
+  answered : (a : Checked) (rest : List ℕ) → a ≡ checkedOf (blockRefusal l) → rest ≡ leftOf l → record { checked = a; left = rest } ≡ dividedOf l
+  unfolding dividedOf
+  answered a rest e f = ap₂ (λ (x : Checked) (y : List ℕ). let d : Divided = record { checked = x; left = y } in d) e f
+
+  pub divided-short : (length l ≡ 254 → ⊥) → record { checked = Refused (refusalPlain Size); left = zeros 6 } ≡ dividedOf l
+  unfolding blockRefusal
+  divided-short n = answered _ _ (rw (ne-eqb _ _ n) refl) (sym (left-short l n))
+
+  pub divided-long : (rest : List ℕ) → length l ≡ 254 → rest ≡ leftOf l → record { checked = Passed; left = rest } ≡ dividedOf l
+  unfolding blockRefusal
+  divided-long rest n e = answered _ rest (rw (eq-eqb _ _ n) refl) e
 
 module _ (l : List ℕ) (n : length l ≡ 254) where
   pub last-six : length (drop 248 l) ≡ 6

@@ -5,7 +5,7 @@ use mathlib.Core.Path.{_≡_, refl, sym, ap, ap₂, _∙_, subst}
 use mathlib.Core.Bool.{Bool, true, false, cond, _&&_}
 use mathlib.Core.List.{List, [], _∷_, map, List·Memᴰ, List·Memᴰ·head, List·Memᴰ·tail, List·Memᴰ·not-nil, List·Memᴰ·cases-cons, List·Memᴰ·append-cases, List·Memᴰ·eq-of-singleton, Memᴰ·append-left, Memᴰ·append-right, Memᴰ·map, Memᴰ·of-map, Memᴰ·cast}
 use mathlib.Core.Logic.{_⊎_, inl, inr, ⊎-elim}
-use mathlib.Core.Option.{Option, none, some, Option·getD}
+use mathlib.Core.Option.{Option, none, some, Option·getD, Option·some-ne-none}
 use Prim.Native.Nat.{ℕ, zero, suc, _+_, _≤_, _<_}
 use native.Mathlib.Nat.{suc-inj}
 use native.Mathlib.Omega.{arith}
@@ -15,10 +15,14 @@ use lib.ListN.{length, drop}
 use Rattle.basics.specs.Each.{all, same}
 use Rattle.basics.proofs.Laws.Test.{both-true, never, lt-or-le}
 use Rattle.basics.proofs.Laws.Each.{same-equal, same-self}
-use Rattle.rs.specs.Codeword.{Codeword}
+use Rattle.refusal.specs.Chain.{require, passed}
+use Rattle.refusal.specs.Number.{refusalPlain}
+use Rattle.refusal.specs.declared.Reason.the-variants.{BeyondRepair}
+use Rattle.refusal.specs.declared.Refusal.{Refusal}
+use Rattle.rs.specs.Codeword.{blockRefusal, Codeword}
 use Rattle.basics.specs.Below.{Bytes}
 use Rattle.basics.proofs.Laws.Below.{all-below, below-all}
-use Rattle.rs.specs.Decode.{changes, isByte, isCodeword, fronted, near, firstCodeword, given, decode, repairable, repaired}
+use Rattle.rs.specs.Decode.{changes, Within, isByte, isCodeword, fronted, near, firstCodeword, given, decode, repairable, repaired, decodeRefusal}
 use Rattle.rs.proofs.Laws.Distance.{place, differ-le, differ-same, changes-zero, changes-self, changes-le-length}
 use Rattle.rs.proofs.Laws.Codeword.{codeword-unique}
 
@@ -125,12 +129,6 @@ first-found (w ∷ ws) c C h = go (isCodeword w) (λ e. codeword-true w (subst C
 
 -- ---- decode
 
--- c is a codeword within three places of r
-pub record Within (r c : List ℕ) : Type 0 where
-  pub word : Codeword c
-  pub long : length c ≡ length r
-  pub near : changes c r ≤ 3
-
 pub decode-sound : (r c : List ℕ) → decode r ≡ some c → Within r c
 unfolding decode
 decode-sound r c e =
@@ -183,6 +181,23 @@ short-answer l n = none-answer l (decode-short l n)
 
 pub codeword-answer : (l : List ℕ) → Codeword l → Answer l true l
 codeword-answer l C = some-answer l l (decode-self l C)
+
+-- of 254 bytes, whether there is such a codeword decides
+pub decode-decides : (l : List ℕ) → length l ≡ 254 → decodeRefusal l ≡ require (repairable l) (refusalPlain BeyondRepair) passed
+unfolding decodeRefusal blockRefusal
+decode-decides l n = rw (eq-eqb (length l) 254 n)
+
+-- what is refused stays as it was
+pub refused-keeps : (l : List ℕ) (why : Refusal) → decodeRefusal l ≡ some why → repaired l ≡ l
+unfolding repaired
+refused-keeps l why r = go (decode l) refl
+  where
+    go : (o : Option (List ℕ)) → decode l ≡ o → Option·getD o l ≡ l
+    go none e = refl
+    go (some c) e =
+        let W = decode-sound l c e in
+        let y : repairable l ≡ true = sym (some-answer l c e .said) in
+        absurd (Option·some-ne-none why (sym r ∙ decode-decides l (sym (W .long) ∙ W .word .long) ∙ ap (λ (b : Bool). require b (refusalPlain BeyondRepair) passed) y))
 
 -- what repair gives where it says yes is a codeword
 pub repaired-codeword : (l : List ℕ) → repairable l ≡ true → Codeword (repaired l)

@@ -1,7 +1,7 @@
 -- The test of any entry by the test of each, and what the tests of a byte come to.
 -- Assumes nothing.
 use mathlib.Core.Path.{_≡_, refl, sym, ap, _∙_}
-use mathlib.Core.Bool.{Bool, true, false, cond, not, _&&_, _||_, and-true, Bool·beq}
+use mathlib.Core.Bool.{Bool, true, false, not, _&&_, _||_, and-true, Bool·beq}
 use mathlib.Core.List.{List, [], _∷_}
 use Prim.Native.Nat.{ℕ, _*_, _<_}
 use native.Mathlib.Omega.{arith}
@@ -10,7 +10,7 @@ use borrow.Author.Tests.{eq-eqb}
 use lib.ListN.{length, getD, take, drop}
 use lib.Seq.{drop-cons, take-all}
 use Rattle.basics.specs.Each.{all}
-use Rattle.rules.specs.Rules.{oneOf, pictureClean, soundByte, soundRule, sameSent}
+use Rattle.rules.specs.Rules.{oneOf, soundByte, soundRule, sameSent}
 
 -- ---- a test of any entry: not each entry is another
 
@@ -32,9 +32,6 @@ found-more false hit = refl
 
 pub long-enough : (l : List ℕ) (n : ℕ) (t : Bool) → length l ≡ n → (eqb (length l) n && t) ≡ t
 long-enough l n t e = rw (eq-eqb (length l) n e)
-
-pub long-clean : (w : List ℕ) → length w ≡ 4 → cond (eqb (length w) 4) (pictureClean w) (0 ∷ 0 ∷ 0 ∷ 0 ∷ []) ≡ pictureClean w
-long-clean w e = rw (eq-eqb (length w) 4 e)
 
 -- ---- a rule of one byte, and both or neither
 

@@ -7,34 +7,28 @@ use Rattle.rules.proofs.picture_clean.Statement.{statement}
 use Rattle.rules.proofs.picture_clean.Tie as tie
 
 returns : tie.Need-returns
-returns c = simp (ne-eqb _ _ (c .if1 .taken))
+unfolding pictureClean
+returns c = simp (eq-eqb _ _ (c .if1 .taken))
 
 returns-2 : tie.Need-returns-2
-unfolding pictureClean
-returns-2 c = simp (eq-eqb _ _ (c .before .before .if1 .left), eq-eqb _ _ (c .if2 .taken))
-
-returns-3 : tie.Need-returns-3
 unfolding pictureClean bitFor onlyBit lowHalf
-returns-3 c =
-    let b7 = c .before .before in
-    let b6 = b7 .before .before in
-    let b5 = b6 .before .before in
-    let b4 = b5 .before .before in
-    let b3 = b4 .before .before in
-    let b2 = b3 .before .before in
-    let b1 = b2 .before .before in
-    let e2 = b1 .before .before in
-    simp (eq-eqb _ _ (e2 .before .before .if1 .left), ne-eqb _ _ (e2 .if2 .left))
-    (rw (b1 .bit-if .ensures .0, b2 .bit-if2 .ensures .0, b3 .bit-if3 .ensures .0, b4 .bit-if4 .ensures .0, b5 .bit-if5 .ensures .0, b6 .bit-if6 .ensures .0, b7 .bit-if7 .ensures .0))
+returns-2 c =
+    let b6 = c .before in
+    let b5 = b6 .before in
+    let b4 = b5 .before in
+    let b3 = b4 .before in
+    let b2 = b3 .before in
+    let b1 = b2 .before in
+    simp (ne-eqb _ _ (b1 .before .if1 .left))
+    (rw (b1 .bit-if .ensures .0, b2 .bit-if2 .ensures .0, b3 .bit-if3 .ensures .0, b4 .bit-if4 .ensures .0, b5 .bit-if5 .ensures .0, b6 .bit-if6 .ensures .0, c .bit-if7 .ensures .0))
 
 pub picture-clean-spec : {M : Type 1} → statement M
 picture-clean-spec =
     tie.close
     (tie.spec
+    (λ c. search needs)
     returns
     (λ c. search needs)
-    returns-2
-    (λ c. search needs)
     (λ c κs. search needs)
     (λ c. search needs)
     (λ c κs. search needs)
@@ -56,4 +50,4 @@ picture-clean-spec =
     (λ c. search needs)
     (λ c. search needs)
     (λ c. search needs)
-    returns-3)
+    returns-2)

@@ -25,12 +25,20 @@ step-lt : (l n : ℕ) → stepOf l n < 16
 unfolding stepOf
 step-lt l n = omega arith
 
+-- ---- what was missed
+
+-- where m packets went by since the last one, m are missed
+pub missed-true : (c m : ℕ) → c < 16 → m ≤ 14 → missedOf Next (stepOf c ((c + 1 + m) % 16)) ≡ m
+missed-true c m h l = omega (arith, step-on c m h l)
+
 -- at most 14 for one arrival
 pub missed-le : (k : Kind) (l n : ℕ) → missedOf k (stepOf l n) ≤ 14
 missed-le First l n = omega arith
 missed-le Next l n = omega (arith, step-lt l n)
 missed-le Repeat l n = omega arith
 missed-le Conflict l n = omega arith
+
+-- ---- the kind
 
 -- a step of one or more is the next packet
 pub further : (m : ℕ) (equal : Bool) → kindOf true (suc m) equal ≡ Next

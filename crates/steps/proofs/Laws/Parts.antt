@@ -16,11 +16,17 @@ use Rattle.basics.proofs.Laws.Test.{lt-or-le, below, below-at}
 use Rattle.items.specs.Items.{items}
 use Rattle.items.specs.Item.{rowOf, placeIn, placeOf, itemPart}
 use Rattle.items.specs.declared.ItemPlace.{ItemPlace}
-use Rattle.record.specs.Stored.{itemLent, putLeaves}
+use Rattle.record.specs.Stored.{itemLent, putRefusal, putLeaves}
 use Rattle.items.proofs.Laws.Item.{row-none}
+use Rattle.refusal.specs.Chain.{require, next, passed}
+use Rattle.refusal.specs.Checked.{checkedOf, refusalIn}
+use Rattle.refusal.specs.Number.{refusalPlain}
+use Rattle.refusal.specs.declared.Checked.{Checked}
+use Rattle.refusal.specs.declared.Reason.the-variants.{Size}
 use Rattle.record.proofs.Laws.Stored.{part-long}
 use Rattle.steps.specs.declared.Step.{Step}
-use Rattle.steps.specs.Steps.{stepRoom, padded, stepOf, pushed, blank, backFrom}
+use Rattle.steps.specs.declared.Kept.{Kept}
+use Rattle.steps.specs.Steps.{stepRoom, padded, stepOf, stepRefusal, keptOf, pushed, blank, oldOf, backRefusal, backFrom}
 
 -- ---- a step
 
@@ -51,6 +57,16 @@ step-copied n bytes p i e a b =
     let o : take i p ++ drop i (replicate stepRoom 0) ≡ itemLent n bytes ++ drop (length (itemLent n bytes)) (replicate stepRoom 0) =
     rw (take-all i p b, l, e) in
     λ t. record { item = n; old = o t }
+
+-- with the answer of its checks
+pub kept-is : (n : ℕ) (bytes : List ℕ) (p : ItemPlace) (a : Checked) (s : Step) → p ≡ placeOf n
+    → a ≡ checkedOf (next (refusalIn (p .checked)) (require (eqb (length bytes) 248) (refusalPlain Size) passed)) → s ≡ stepOf n bytes
+    → record { checked = a; step = s } ≡ keptOf n bytes
+unfolding keptOf stepRefusal
+kept-is n bytes p a s e f g =
+    let h : a ≡ checkedOf (stepRefusal n bytes) =
+    f ∙ ap (λ (q : ItemPlace). checkedOf (next (refusalIn (q .checked)) (require (eqb (length bytes) 248) (refusalPlain Size) passed))) e in
+    λ t. record { checked = h t; step = g t }
 
 -- ---- the steps with one more
 
@@ -94,9 +110,13 @@ pushed-full steps count i s n h e =
 
 -- ---- the bytes before a step
 
-pub back-put : (s : Step) (p : ItemPlace) (bytes new : List ℕ) → p ≡ placeOf (s .item)
-    → new ≡ putLeaves (s .item) (take (p .length - 0) (s .old)) bytes → new ≡ backFrom s bytes
-unfolding backFrom
-back-put s p bytes new q e =
-    let k : p .length - 0 ≡ placeOf (s .item) .length = omega (arith, ap (λ (o : ItemPlace). o .length) q) in
-    e ∙ rw k
+module _ (s : Step) (p : ItemPlace) (bytes new : List ℕ) (q : p ≡ placeOf (s .item)) where
+  old-is : take (p .length - 0) (s .old) ≡ oldOf s
+  old-is =
+      let k : p .length - 0 ≡ placeOf (s .item) .length = omega (arith, ap (λ (o : ItemPlace). o .length) q) in
+      rw k
+
+  pub back-put : (a : Checked) → a ≡ checkedOf (putRefusal (s .item) (take (p .length - 0) (s .old)) (length bytes)) → new ≡ putLeaves (s .item) (take (p .length - 0) (s .old)) bytes
+      → (a ≡ checkedOf (backRefusal s (length bytes))) × (new ≡ backFrom s bytes)
+  unfolding backRefusal backFrom
+  back-put a r e = (r ∙ ap (λ (l : List ℕ). checkedOf (putRefusal (s .item) l (length bytes))) old-is, e ∙ ap (λ (l : List ℕ). putLeaves (s .item) l bytes) old-is)

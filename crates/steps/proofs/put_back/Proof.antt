@@ -23,7 +23,7 @@ returns c =
     let p = c .before .before in
     let i = p .before .before .before .before in
     let a = i .before .before .before .args in
-    back-put (a .step) _ (a .bytes .now) _ (i .item-place .ensures) (p .put-item .ensures .1)
+    back-put (a .step) _ (a .bytes .now) _ (i .item-place .ensures) _ (p .put-item .ensures .0) (p .put-item .ensures .1)
 
 pub put-back-spec : {M : Type 1} → statement M
 put-back-spec =

@@ -6,21 +6,21 @@ use mathlib.Core.List.{_++_}
 use Prim.Native.Nat.{_-_, _≤_}
 use native.Mathlib.Omega.{arith}
 use lib.ListN.{length, take, drop, replicate}
-use Rattle.steps.proofs.Laws.Parts.{lent-short, copy-more, step-copied}
+use Rattle.steps.proofs.Laws.Parts.{lent-short, copy-more, step-copied, kept-is}
 use borrow.Author.Needs.{needs}
 use Rattle.steps.proofs.step_of.Statement.{statement}
 use Rattle.steps.proofs.step_of.Tie as tie
 
 abbrev Inv-loop : tie.InvT-loop
-Inv-loop item bytes part old₀ i₀ old i = (i ≤ length part) × (length part ≤ 9) × (old ≡ take i part ++ drop i (replicate 9 0))
+Inv-loop item bytes checked part old₀ i₀ old i = (i ≤ length part) × (length part ≤ 9) × (old ≡ take i part ++ drop i (replicate 9 0))
 
 abbrev μ-loop : tie.MeasureT-loop
-μ-loop item bytes part old₀ i₀ old i = length part - i
+μ-loop item bytes checked part old₀ i₀ old i = length part - i
 
 loop-holds : tie.Need-loop-holds Inv-loop μ-loop
 loop-holds c =
-    let a = c .before .before .args in
-    (search needs, omega (arith, ap length (c .item-part .ensures), lent-short (a .item) (a .bytes .now)), refl)
+    let a = c .before .before .before .before .args in
+    (search needs, omega (arith, ap length (c .item-part .ensures .0), lent-short (a .item) (a .bytes .now)), refl)
 
 loop-again : tie.Need-loop-again Inv-loop μ-loop
 loop-again c =
@@ -31,8 +31,11 @@ returns : tie.Need-returns Inv-loop μ-loop
 returns c =
     let l = c .before .loop in
     let p = c .before .before in
-    let a = p .before .before .args in
-    rw (l .inv .2) (step-copied (a .item) (a .bytes .now) _ (l .i) (p .item-part .ensures) (l .inv .0) (omega arith))
+    let t = p .before in
+    let i = t .before in
+    let a = i .before .before .args in
+    kept-is (a .item) (a .bytes .now) _ _ _ (i .item-place .ensures) (t .then .ensures)
+    (rw (l .inv .2) (step-copied (a .item) (a .bytes .now) _ (l .i) (p .item-part .ensures .0) (l .inv .0) (omega arith)))
 
 pub step-of-spec : {M : Type 1} → statement M
 step-of-spec =
@@ -40,6 +43,8 @@ step-of-spec =
     (tie.spec
     Inv-loop
     μ-loop
+    (λ c κs. search needs)
+    (λ c κs. search needs)
     (λ c κs. search needs)
     loop-holds
     (λ c. search needs)

@@ -2,7 +2,7 @@
 -- Assumes nothing.
 use mathlib.Core.Path.{_≡_, refl, sym, ap, _∙_}
 use mathlib.Core.Bool.{Bool, true, false, cond}
-use mathlib.Core.List.{List, [], _∷_, _++_}
+use mathlib.Core.List.{List, _∷_, _++_}
 use Prim.Native.Nat.{ℕ, _+_, _/_, _%_, _≤_, _<_}
 use native.Mathlib.Omega.{arith}
 use borrow.Author.Tests.{eq-eqb, ne-eqb}
@@ -12,13 +12,13 @@ use lib.Seq.{take-at, drop-at}
 use Rattle.basics.specs.Each.{all}
 use Rattle.basics.specs.Below.{Bytes}
 use Rattle.basics.proofs.Laws.Below.{append-below}
-use Rattle.anc.specs.Word.{isSound, checksumOf}
+use Rattle.anc.specs.Word.{isSound}
 use Rattle.anc.specs.Words.{lowBytes, soundWords, narrow, flag}
 use Rattle.anc.proofs.Laws.Word.{word-lt, word-low, word-sound}
 use Rattle.anc.proofs.Laws.Words.{words-append, low-append, soundWords-length, low-words, words-narrow, narrow-append}
 use Rattle.rs.specs.Codeword.{parityOf, Codeword}
 use Rattle.rs.proofs.Laws.Division.{parity-length, parity-bytes}
-use Rattle.writing.specs.Layout.{kind, headerWord, protectedWords, summedWords, packetWords}
+use Rattle.writing.specs.Layout.{kind, headerWord, protectedWords, summedWords, packetWords, carrying}
 
 -- ---- the protected words: with correction on, those of a codeword
 
@@ -51,11 +51,6 @@ protected-narrow true r b = narrow-append _ _ (words-narrow r b) (words-narrow (
 protected-narrow false r b = narrow-append _ _ (words-narrow r b) (unfold narrow all in refl)
 
 -- ---- the words around the protected ones
-
--- a packet with the words q in the protected places
-abbrev pub carrying : Bool → ℕ → List ℕ → List ℕ → List ℕ
-carrying on ci r q =
-    0x000 ∷ 0x3FF ∷ 0x3FF ∷ 0x25F ∷ 0x1FE ∷ 0x2FF ∷ headerWord on ci ∷ (q ++ checksumOf (summedWords on ci r) ∷ [])
 
 pub packet-carries : (on : Bool) (ci : ℕ) (r : List ℕ) → packetWords on ci r ≡ carrying on ci r (protectedWords on r)
 unfolding packetWords summedWords flag kind

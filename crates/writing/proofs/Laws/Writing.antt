@@ -7,7 +7,7 @@ use mathlib.Core.List.{List, [], _∷_, _++_, append-assoc, append-nil}
 use mathlib.Core.Option.{Option, none, some}
 use Prim.Native.Nat.{ℕ, _+_, _≤_, _<_}
 use native.Mathlib.Omega.{arith}
-use borrow.Author.Tests.{eq-eqb, ne-eqb, le-leb, lt-leb}
+use borrow.Author.Tests.{eq-eqb, ne-eqb, eqb-true, le-leb, lt-leb, leb-true}
 use borrow.Rule.Slice.PartMut.{putMid}
 use lib.ListN.{length, getD, set, take, drop, replicate, length-append, drop-of-length-le}
 use lib.Seq.{sets, sets-eq, set-at, take-at, drop-at, drop-drop}
@@ -23,7 +23,7 @@ use Rattle.record.specs.Record.{broken, recordOf, recordRefusal}
 use Rattle.items.specs.Items.{items}
 use Rattle.record.specs.Written.{written}
 use Rattle.record.proofs.Laws.Record.{record-fits, rules-decide}
-use Rattle.refusal.proofs.Laws.Chain.{told}
+use Rattle.refusal.proofs.Laws.Chain.{require-passed, next-passed, told}
 use Rattle.basics.proofs.Laws.Parts.{over, last-one}
 use Rattle.writing.specs.declared.Written.{Written}
 use Rattle.writing.specs.declared.Written.the-variants.{Done, Refused}
@@ -158,3 +158,34 @@ refusal-said ci bytes room = go (writeRefusal ci bytes room)
     go : (o : Option Refusal) → refusalIn (writtenBy o) ≡ o
     go none = refl
     go (some why) = refl
+
+-- ---- what a caller learns
+
+-- what is not refused: 248 bytes that keep the rules, an index up to 15 and room for a packet; their words are left
+pub record Wrote (on : Bool) (ci : ℕ) (bytes old : List ℕ) : Type 0 where
+  pub long : length bytes ≡ 248
+  pub index : ci ≤ 15
+  pub rules : broken items bytes ≡ none
+  pub room : length old ≡ 262
+  pub left : writeLeaves on ci bytes old ≡ writtenWords on ci bytes
+
+pub done-wrote : (on : Bool) (ci : ℕ) (bytes old : List ℕ) → writtenOf ci bytes (length old) ≡ Done → Wrote on ci bytes old
+unfolding writeRefusal writeLeaves
+done-wrote on ci bytes old e =
+    let passed : writeRefusal ci bytes (length old) ≡ none = sym (refusal-said ci bytes (length old)) ∙ ap refusalIn e in
+    let a = require-passed _ _ _ passed in
+    let b = require-passed _ _ _ (a .1) in
+    let c = next-passed _ _ (b .1) in
+    let d = require-passed _ _ _ (c .1) in
+    record {
+      long = eqb-true _ _ (a .0);
+      index = leb-true _ _ (b .0);
+      rules = c .0;
+      room = eqb-true _ _ (d .0);
+      left = ap (λ (o : Option Refusal). leftBy o (writtenWords on ci bytes) old) passed;
+    }
+
+-- and such bytes are not refused
+pub wrote-done : (ci : ℕ) (bytes : List ℕ) → length bytes ≡ 248 → ci ≤ 15 → broken items bytes ≡ none → writtenOf ci bytes 262 ≡ Done
+unfolding writtenOf writeRefusal
+wrote-done ci bytes n i b = simp (eq-eqb (length bytes) 248 n, le-leb ci 15 i, b)

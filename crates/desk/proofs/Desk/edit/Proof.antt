@@ -17,7 +17,7 @@ returns c =
 returns-2 : tie.Need-returns-2
 returns-2 c =
     let p = c .before in
-    let s = p .before .before in
+    let s = p .before .before .before in
     let h = s .before .before in
     let t = h .before in
     let k = t .before .before .before in

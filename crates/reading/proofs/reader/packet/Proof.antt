@@ -1,13 +1,8 @@
 -- `reading::reader::packet` meets its contract: words are counted as fixed only with correction on.
 -- Assumes nothing.
-use mathlib.Core.Path.{sym, _∙_}
 use mathlib.Core.List.{List}
 use Prim.Native.Nat.{ℕ}
-use native.Mathlib.Omega.{arith}
 use borrow.Author.Tests.{eq-eqb, ne-eqb}
-use lib.ListN.{take, drop}
-use Rattle.basics.proofs.Laws.Parts.{run-length}
-use Rattle.repair.proofs.Laws.Changes.{changed-words}
 use Rattle.reading.specs.Reading.{correctionOf, protectedOf}
 use Rattle.reading.proofs.Laws.Reader.{packet-on, packet-off}
 use borrow.Author.Needs.{needs}
@@ -21,8 +16,7 @@ returns c =
     let s = t .before .before .before .before .before in
     let ws : List ℕ = s .args .words .now in
     let bytes : List ℕ = s .args .bytes .now in
-    packet-on ws bytes _ (eq-eqb _ _ (t .if1 .taken))
-    (c .count-fixed .ensures ∙ sym (changed-words (take 254 (drop 7 ws)) bytes (run-length ws 7 254 (omega arith)) (s .pre .1)))
+    packet-on ws bytes _ (eq-eqb _ _ (t .if1 .taken)) (c .fixed .ensures)
 
 returns-2 : tie.Need-returns-2
 unfolding correctionOf

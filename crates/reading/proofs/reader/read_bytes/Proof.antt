@@ -8,43 +8,43 @@ use Rattle.basics.specs.Each.{all}
 use Rattle.anc.proofs.Laws.Words.{low-filled}
 use Rattle.refusal.specs.Checked.{checkedOf}
 use Rattle.refusal.specs.Number.{refusalPlain}
-use Rattle.refusal.specs.declared.Reason.the-variants.{Parity, Fill, BeyondRepair}
+use Rattle.refusal.specs.declared.Reason.the-variants.{Parity, Fill}
 use Rattle.refusal.proofs.Laws.Chain.{chained-none, chained-more, chained-all}
-use Rattle.rs.specs.Decode.{repairable, repaired}
+use Rattle.rs.specs.Decode.{repaired, decodeRefusal}
 use Rattle.reading.specs.Reading.{isFill}
-use Rattle.reading.proofs.Laws.Reader.{guarded-on, guarded-off, bytes-on, bytes-off, last-six}
+use Rattle.reading.proofs.Laws.Reader.{repair-decides, guarded-off, bytes-on, bytes-off, last-six}
 use Rattle.reading.proofs.reader.read_bytes.Statement.{statement}
 use Rattle.reading.proofs.reader.read_bytes.Tie as tie
 
 returns : tie.Need-returns
 returns c =
-    let r = c .before .before .before in
+    let r = c .before .before in
     let t = r .before .before in
     let b = t .before .before .before in
     let s = b .before .before .before .before in
     let ws : List ℕ = s .args .words .now in
-    let low = low-filled _ ws _ (b .low-bytes .ensures .1) (s .pre .0 ∙ sym (s .pre .1)) in
-    let c1 = chained-more (refusalPlain BeyondRepair) chained-none (c .then .ensures) (r .repair .ensures .0 ∙ ap repairable low) in
-    (chained-all c1 ∙ ap checkedOf (sym (guarded-on _ ws (t .if1 .taken))), r .repair .ensures .1 ∙ ap repaired low ∙ bytes-on _ ws (t .if1 .taken))
+    let low = low-filled _ ws _ (b .low-bytes .ensures .1) (s .pre .0 ∙ sym (s .pre .1)) in (
+      r .repair .ensures .0 ∙ ap checkedOf (ap decodeRefusal low ∙ repair-decides _ ws (t .if1 .taken) (s .pre .0)),
+      r .repair .ensures .1 ∙ ap repaired low ∙ bytes-on _ ws (t .if1 .taken),
+    )
 
 returns-2 : tie.Need-returns-2
 returns-2 c =
     let f = c .before in
-    let t2 = f .before .before in
-    let e = t2 .before .before .before in
+    let t1 = f .before .before in
+    let e = t1 .before .before .before in
     let b = e .before .before .before in
     let s = b .before .before .before .before in
     let ws : List ℕ = s .args .words .now in
     let low = low-filled _ ws _ (b .low-bytes .ensures .1) (s .pre .0 ∙ sym (s .pre .1)) in
-    let c1 = chained-more (refusalPlain Parity) chained-none (t2 .then2 .ensures) (t2 .before .all-sound .ensures) in
-    let c2 = chained-more (refusalPlain Fill) c1 (c .then3 .ensures) (f .all-fill .ensures ∙ ap (all isFill) (last-six ws (s .pre .0))) in
+    let c1 = chained-more (refusalPlain Parity) chained-none (t1 .then .ensures) (t1 .before .all-sound .ensures) in
+    let c2 = chained-more (refusalPlain Fill) c1 (c .then2 .ensures) (f .all-fill .ensures ∙ ap (all isFill) (last-six ws (s .pre .0))) in
     (chained-all c2 ∙ ap checkedOf (sym (guarded-off _ ws (e .if1 .left))), low ∙ bytes-off _ ws (e .if1 .left))
 
 pub read-bytes-spec : {M : Type 1} → statement M
 read-bytes-spec =
     tie.close
     (tie.spec
-    (λ c κs. search needs)
     (λ c κs. search needs)
     (λ c κs. search needs)
     (λ c. search needs)

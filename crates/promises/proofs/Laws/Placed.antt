@@ -1,0 +1,226 @@
+-- Every refusal that the definitions give has its right place: how a chain of checks keeps that, the rules of the items, and what each call is
+-- refused for.
+-- Assumes nothing.
+use mathlib.Core.Path.{_≡_, refl, sym, _∙_}
+use mathlib.Core.Bool.{Bool, true, false, cond, false≢true}
+use mathlib.Core.List.{List, [], _∷_, List·Memᴰ, List·Memᴰ·head, List·Memᴰ·tail}
+use mathlib.Core.Logic.{_⊎_, inl, inr, ⊎-elim}
+use mathlib.Core.Option.{Option, none, some, Option·some-ne-none}
+use Prim.Native.Nat.{ℕ}
+use lib.Dec.{eqb}
+use Rattle.refusal.specs.Chain.{require, passed, next}
+use Rattle.refusal.specs.Checked.{refusalIn}
+use Rattle.refusal.specs.Number.{numberOf, refusalPlain}
+use Rattle.refusal.specs.declared.Reason.{Reason}
+use Rattle.refusal.specs.declared.Refusal.{Refusal}
+use Rattle.refusal.proofs.Laws.Chain.{passed-other}
+use Rattle.anc.specs.Words.{fillRefusal}
+use Rattle.rs.specs.Codeword.{blockRefusal}
+use Rattle.rs.specs.Decode.{decodeRefusal}
+use Rattle.items.specs.Items.{Row, items, part}
+use Rattle.items.specs.Item.{rowOf, refusedIn, itemRefusal, placeIn, placeOf}
+use Rattle.record.specs.Record.{broken, recordRefusal}
+use Rattle.record.specs.Written.{writtenRefusal}
+use Rattle.record.specs.Stored.{putRefusedIn, putRefusal, storeRefusal}
+use Rattle.repair.specs.Protected.{countRefusal, repairRefusal}
+use Rattle.writing.specs.Writing.{writeRefusal}
+use Rattle.reading.specs.Reading.{headRefusal, protectedRefusal, bodyRefusal, readRefusal, readIntoRefusal}
+use Rattle.steps.specs.declared.Step.{Step}
+use Rattle.steps.specs.Steps.{stepRefusal, oldOf, backRefusal}
+use Rattle.desk.specs.declared.Desk.{Desk}
+use Rattle.desk.specs.Desk.{undoRefusal, sendRefusal}
+use Rattle.b40.specs.Packing.{packRefusal}
+use Rattle.b40.specs.Unpacking.{unpackRefusal}
+use Rattle.promises.specs.Places.{isRule, RightPlace, RightIn}
+
+-- ---- chains of checks
+
+passed-right : RightIn passed
+passed-right = record { right = λ why e. absurd (passed-other why e) }
+
+refused-right : (why : Refusal) → RightPlace (numberOf (why .reason)) (why .place) → RightIn (some why)
+refused-right why p = record { right = λ w e. let same : w ≡ why = cc in rw same p }
+
+-- a check whose refusal, where it is given, has its right place
+require-right : {rest : Option Refusal} (t : Bool) (why : Refusal) → (t ≡ false → RightPlace (numberOf (why .reason)) (why .place)) → RightIn rest
+    → RightIn (require t why rest)
+require-right true why p q = q
+require-right false why p q = refused-right why (p refl)
+
+-- two chains, one behind the other
+next-right : {rest : Option Refusal} (first : Option Refusal) → RightIn first → RightIn rest → RightIn (next first rest)
+next-right none p q = q
+next-right (some why) p q = p
+
+-- place 0 is right for a reason that is no item's rule
+plain-right : (why : Reason) → isRule (numberOf why) ≡ false → RightPlace (numberOf why) 0
+plain-right why e = record { of-item = λ t. absurd (false≢true (sym e ∙ t)); else-zero = λ f. refl }
+
+refused-plain : (why : Reason) → isRule (numberOf why) ≡ false → RightIn (some (refusalPlain why))
+refused-plain why e = refused-right (refusalPlain why) (plain-right why e)
+
+require-plain : {rest : Option Refusal} (t : Bool) (why : Reason) → isRule (numberOf why) ≡ false → RightIn rest
+    → RightIn (require t (refusalPlain why) rest)
+require-plain t why e q = require-right t (refusalPlain why) (λ f. plain-right why e) q
+
+-- a chain is worked through by these, check by check
+ruleset checks = (passed-right, refused-plain, require-plain, next-right)
+
+-- ---- the rules of the items
+
+-- an item is refused with 11 to 14, or may hold anything
+abbrev Ruled : Row → Type 0
+Ruled i = (isRule (numberOf (i .reason)) ≡ true) ⊎ ((bytes : List ℕ) → i .rule bytes ≡ true)
+
+-- so is each of a list
+abbrev AllRuled : List Row → Type 0
+AllRuled [] = Unit {0}
+AllRuled (i ∷ is) = Ruled i × AllRuled is
+
+-- so is each of the table
+items-ruled : AllRuled items
+unfolding items numberOf
+items-ruled = search (inl, inr) depth 30
+
+ruled-at : {i : Row} {is : List Row} → List·Memᴰ i is → AllRuled is → Ruled i
+ruled-at (List·Memᴰ·head e) (r, more) = rw e r
+ruled-at (List·Memᴰ·tail m) (r, more) = ruled-at m more
+
+-- where an item's rule is broken, the place is the item's first byte
+rule-right : (i : Row) → List·Memᴰ i items → (bytes : List ℕ) → i .rule bytes ≡ false → RightPlace (numberOf (i .reason)) (i .first)
+rule-right i m bytes f =
+    ⊎-elim
+    (λ e. record { of-item = λ t. record { row = i; listed = m; reason = refl; first = refl }; else-zero = λ n. absurd (false≢true (sym n ∙ e)) })
+    (λ e. absurd (false≢true (sym f ∙ e bytes)))
+    (ruled-at m items-ruled)
+
+-- the first rule that is broken, of some rows of the table
+rows-right : (is : List Row) (bytes : List ℕ) → ((i : Row) → List·Memᴰ i is → List·Memᴰ i items) → RightIn (broken is bytes)
+unfolding broken
+rows-right [] bytes m = passed-right
+rows-right (i ∷ is) bytes m =
+    let broken-here = rule-right i (m i (List·Memᴰ·head refl)) (part i bytes) in
+    let later = rows-right is bytes (λ j l. m j (List·Memᴰ·tail l)) in
+    search (require-right, broken-here, later)
+
+broken-right : (bytes : List ℕ) → RightIn (broken items bytes)
+broken-right bytes = rows-right items bytes (λ i m. m)
+
+-- the row that has a number is a row of the table
+row-listed : (n : ℕ) (is : List Row) (i : Row) → rowOf n is ≡ some i → List·Memᴰ i is
+unfolding rowOf
+row-listed n [] i e = absurd (Option·some-ne-none i (sym e))
+row-listed n (j ∷ is) i e = by (eqb n (j .number)) (row-listed n is i) e
+  where
+    by : (t : Bool) → (rowOf n is ≡ some i → List·Memᴰ i is) → cond t (some j) (rowOf n is) ≡ some i → List·Memᴰ i (j ∷ is)
+    by true later e = let same : i ≡ j = cc in List·Memᴰ·head same
+    by false later e = List·Memᴰ·tail (later e)
+
+-- the checks of an item's bytes, by its row
+row-right : (bytes : List ℕ) (o : Option Row) → ((i : Row) → o ≡ some i → List·Memᴰ i items) → RightIn (refusedIn bytes o)
+unfolding refusedIn numberOf
+row-right bytes none m = search checks
+row-right bytes (some i) m = search (checks, require-right, rule-right i (m i refl) bytes)
+
+pub item-right : (n : ℕ) (bytes : List ℕ) → RightIn (itemRefusal n bytes)
+unfolding itemRefusal
+item-right n bytes = row-right bytes (rowOf n items) (row-listed n items)
+
+-- ---- what each call is refused for
+
+pub fill-right : (new : List ℕ) (room : ℕ) → RightIn (fillRefusal new room)
+unfolding fillRefusal numberOf
+fill-right new room = search checks
+
+pub block-right : (block : List ℕ) → RightIn (blockRefusal block)
+unfolding blockRefusal numberOf
+block-right block = search checks
+
+pub decode-right : (block : List ℕ) → RightIn (decodeRefusal block)
+unfolding decodeRefusal numberOf
+decode-right block = search (checks, block-right)
+
+pub place-right : (n : ℕ) → RightIn (refusalIn (placeOf n .checked))
+unfolding placeOf placeIn numberOf
+place-right n = by (rowOf n items)
+  where
+    by : (o : Option Row) → RightIn (refusalIn (placeIn o .checked))
+    by none = search checks
+    by (some i) = search checks
+
+pub record-right : (bytes : List ℕ) → RightIn (recordRefusal bytes)
+unfolding recordRefusal numberOf
+record-right bytes = search (checks, broken-right)
+
+pub written-right : (bytes : List ℕ) (room : ℕ) → RightIn (writtenRefusal bytes room)
+unfolding writtenRefusal numberOf
+written-right bytes room = search checks
+
+pub put-right : (n : ℕ) (bytes : List ℕ) (room : ℕ) → RightIn (putRefusal n bytes room)
+unfolding putRefusal putRefusedIn numberOf
+put-right n bytes room = by (rowOf n items)
+  where
+    by : (o : Option Row) → RightIn (putRefusedIn bytes room o)
+    by none = search checks
+    by (some i) = search checks
+
+pub store-right : (n : ℕ) (bytes : List ℕ) (room : ℕ) → RightIn (storeRefusal n bytes room)
+unfolding storeRefusal numberOf
+store-right n bytes room = search (checks, item-right)
+
+pub repair-right : (words : List ℕ) (room : ℕ) → RightIn (repairRefusal words room)
+unfolding repairRefusal numberOf
+repair-right words room = search checks depth 8
+
+pub count-right : (words bytes : List ℕ) → RightIn (countRefusal words bytes)
+unfolding countRefusal numberOf
+count-right words bytes = search checks
+
+pub write-right : (ci : ℕ) (bytes : List ℕ) (room : ℕ) → RightIn (writeRefusal ci bytes room)
+unfolding writeRefusal numberOf
+write-right ci bytes room = search (checks, broken-right) depth 8
+
+head-right : (words : List ℕ) → RightIn (headRefusal words)
+unfolding headRefusal numberOf
+head-right words = search checks depth 8
+
+protected-right : (on : Bool) (guarded : List ℕ) → RightIn (protectedRefusal on guarded)
+unfolding protectedRefusal numberOf
+protected-right true guarded = search checks
+protected-right false guarded = search checks
+
+body-right : (words : List ℕ) → RightIn (bodyRefusal words)
+unfolding bodyRefusal numberOf
+body-right words = search (checks, protected-right, broken-right)
+
+pub read-right : (words : List ℕ) → RightIn (readRefusal words)
+unfolding readRefusal
+read-right words = search (checks, head-right, body-right)
+
+pub into-right : (words : List ℕ) (room : ℕ) → RightIn (readIntoRefusal words room)
+unfolding readIntoRefusal numberOf
+into-right words room = search (checks, read-right)
+
+pub step-right : (item : ℕ) (bytes : List ℕ) → RightIn (stepRefusal item bytes)
+unfolding stepRefusal numberOf
+step-right item bytes = search (checks, place-right)
+
+pub back-right : (s : Step) (room : ℕ) → RightIn (backRefusal s room)
+unfolding backRefusal
+back-right s room = put-right (s .item) (oldOf s) room
+
+pub undo-right : (d : Desk) → RightIn (undoRefusal d)
+unfolding undoRefusal numberOf
+undo-right d = search checks
+
+pub send-right : (d : Desk) (room : ℕ) → RightIn (sendRefusal d room)
+unfolding sendRefusal numberOf
+send-right d room = search checks
+
+pub pack-right : (line offset : ℕ) (words : List ℕ) (room : ℕ) → RightIn (packRefusal line offset words room)
+unfolding packRefusal numberOf
+pack-right line offset words room = search checks depth 8
+
+pub unpack-right : (field : List ℕ) (room : ℕ) → RightIn (unpackRefusal field room)
+unfolding unpackRefusal numberOf
+unpack-right field room = search checks

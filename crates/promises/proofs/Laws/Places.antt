@@ -1,0 +1,242 @@
+-- Demand 1: the place of a refusal is the item's first byte for 11 to 14, else 0. Of each public call that can refuse, under its name, with its
+-- crate's where two share one; and of the calls for C. `Learnt` is the contract as its caller may use it.
+-- Assumes nothing.
+use mathlib.Core.Path.{_≡_, refl}
+use mathlib.Core.Bool.{false≢true}
+use mathlib.Core.List.{List}
+use mathlib.Core.Option.{Option, none, some}
+use Prim.Native.Nat.{ℕ}
+use Rattle.refusal.specs.Checked.{refusalIn}
+use Rattle.refusal.specs.declared.Refusal.{Refusal}
+use Rattle.refusal.proofs.Laws.Chain.{refusal-in}
+use Rattle.rs.specs.Codeword.{dividedOf}
+use Rattle.view.specs.Read.{recordReadOf}
+use Rattle.repair.specs.Repair.{refusalIn as refusalInRepair}
+use Rattle.repair.proofs.Laws.Repair.{refusal-said as repair-said, count-said}
+use Rattle.writing.specs.Written.{refusalIn as refusalInWriting}
+use Rattle.writing.proofs.Laws.Writing.{refusal-said as write-said}
+use Rattle.reading.specs.Answer.{refusalIn as refusalInReading}
+use Rattle.reading.proofs.Laws.Answer.{refusal-said as read-said, into-refusal-said as into-said}
+use Rattle.steps.specs.Steps.{keptOf}
+use Rattle.desk.specs.Desk.{edited, undone, sent}
+use Rattle.follower.specs.Follower.{refusalIn as refusalInHeard}
+use Rattle.follower.proofs.Laws.Follow.{refusal-heard}
+use Rattle.b40.specs.Unpacking.{refusalIn as refusalInField}
+use Rattle.b40.proofs.Laws.Packing.{refusal-said as pack-said}
+use Rattle.b40.proofs.Laws.Unpacking.{refusal-said as unpack-said}
+use Rattle.answers.specs.Answers.{answerBy}
+use Rattle.answers.proofs.Laws.Done.{Says, packet-says, repaired-says, field-says, turn-says, followed-says}
+use Rattle.promises.specs.Places.{RightPlace, RightIn, PlacesRight, AnswersRight}
+use Rattle.promises.proofs.Laws.Placed.{fill-right, block-right, decode-right, place-right, item-right, record-right, written-right, put-right, store-right, repair-right, count-right, write-right, read-right, into-right, step-right, back-right, undo-right, send-right, pack-right, unpack-right}
+use Rattle.anc.proofs.low_bytes.Kinds as low-bytes-types
+use Rattle.anc.proofs.low_bytes.Reads as low-bytes-contract
+use Rattle.anc.proofs.sound_words.Kinds as sound-words-types
+use Rattle.anc.proofs.sound_words.Reads as sound-words-contract
+use Rattle.rs.proofs.remainder.Kinds as remainder-types
+use Rattle.rs.proofs.remainder.Reads as remainder-contract
+use Rattle.search.proofs.repair.Kinds as search-repair-types
+use Rattle.search.proofs.repair.Reads as search-repair-contract
+use Rattle.items.proofs.item_place.Kinds as item-place-types
+use Rattle.items.proofs.item_place.Reads as item-place-contract
+use Rattle.items.proofs.item_refusal.Kinds as item-refusal-types
+use Rattle.items.proofs.item_refusal.Reads as item-refusal-contract
+use Rattle.record.proofs.record_refusal.Kinds as record-refusal-types
+use Rattle.record.proofs.record_refusal.Reads as record-refusal-contract
+use Rattle.record.proofs.write_record.Kinds as write-record-types
+use Rattle.record.proofs.write_record.Reads as write-record-contract
+use Rattle.record.proofs.put_item.Kinds as put-item-types
+use Rattle.record.proofs.put_item.Reads as put-item-contract
+use Rattle.record.proofs.store_item.Kinds as store-item-types
+use Rattle.record.proofs.store_item.Reads as store-item-contract
+use Rattle.view.proofs.read_record.Kinds as read-record-types
+use Rattle.view.proofs.read_record.Reads as read-record-contract
+use Rattle.repair.proofs.repair.Kinds as packet-repair-types
+use Rattle.repair.proofs.repair.Reads as packet-repair-contract
+use Rattle.repair.proofs.count_fixed.Kinds as count-fixed-types
+use Rattle.repair.proofs.count_fixed.Reads as count-fixed-contract
+use Rattle.writing.proofs.write_packet.Kinds as write-packet-types
+use Rattle.writing.proofs.write_packet.Reads as write-packet-contract
+use Rattle.reading.proofs.read_packet.Kinds as read-packet-types
+use Rattle.reading.proofs.read_packet.Reads as read-packet-contract
+use Rattle.reading.proofs.read_packet_into.Kinds as read-packet-into-types
+use Rattle.reading.proofs.read_packet_into.Reads as read-packet-into-contract
+use Rattle.steps.proofs.step_of.Kinds as history-step-types
+use Rattle.steps.proofs.step_of.Reads as history-step-contract
+use Rattle.steps.proofs.put_back.Kinds as put-back-types
+use Rattle.steps.proofs.put_back.Reads as put-back-contract
+use Rattle.desk.proofs.Desk.edit.Kinds as desk-edit-types
+use Rattle.desk.proofs.Desk.edit.Reads as desk-edit-contract
+use Rattle.desk.proofs.Desk.undo.Kinds as desk-undo-types
+use Rattle.desk.proofs.Desk.undo.Reads as desk-undo-contract
+use Rattle.desk.proofs.Desk.send.Kinds as desk-send-types
+use Rattle.desk.proofs.Desk.send.Reads as desk-send-contract
+use Rattle.follower.proofs.Follower.follow.Kinds as follower-follow-types
+use Rattle.follower.proofs.Follower.follow.Reads as follower-follow-contract
+use Rattle.b40.proofs.pack.Kinds as pack-types
+use Rattle.b40.proofs.pack.Reads as pack-contract
+use Rattle.b40.proofs.unpack.Kinds as unpack-types
+use Rattle.b40.proofs.unpack.Reads as unpack-contract
+use Rattle.capi.proofs.ay_write_packet.Kinds as ay-write-packet-types
+use Rattle.capi.proofs.ay_write_packet.Reads as ay-write-packet-contract
+use Rattle.capi.proofs.ay_read_packet.Kinds as ay-read-packet-types
+use Rattle.capi.proofs.ay_read_packet.Reads as ay-read-packet-contract
+use Rattle.capi.proofs.ay_read_packet_into.Kinds as ay-read-packet-into-types
+use Rattle.capi.proofs.ay_read_packet_into.Reads as ay-read-packet-into-contract
+use Rattle.capi.proofs.ay_repair.Kinds as ay-repair-types
+use Rattle.capi.proofs.ay_repair.Reads as ay-repair-contract
+use Rattle.capi.proofs.ay_record_refusal.Kinds as ay-record-refusal-types
+use Rattle.capi.proofs.ay_record_refusal.Reads as ay-record-refusal-contract
+use Rattle.capi.proofs.ay_pack.Kinds as ay-pack-types
+use Rattle.capi.proofs.ay_pack.Reads as ay-pack-contract
+use Rattle.capi.proofs.ay_unpack.Kinds as ay-unpack-types
+use Rattle.capi.proofs.ay_unpack.Reads as ay-unpack-contract
+use Rattle.capi.proofs.ay_desk_edit.Kinds as ay-desk-edit-types
+use Rattle.capi.proofs.ay_desk_edit.Reads as ay-desk-edit-contract
+use Rattle.capi.proofs.ay_desk_undo.Kinds as ay-desk-undo-types
+use Rattle.capi.proofs.ay_desk_undo.Reads as ay-desk-undo-contract
+use Rattle.capi.proofs.ay_desk_send.Kinds as ay-desk-send-types
+use Rattle.capi.proofs.ay_desk_send.Reads as ay-desk-send-contract
+use Rattle.capi.proofs.ay_follower_follow.Kinds as ay-follower-follow-types
+use Rattle.capi.proofs.ay_follower_follow.Reads as ay-follower-follow-contract
+
+-- ---- anc
+
+pub low-bytes : PlacesRight 2 low-bytes-types.ps low-bytes-types.r (λ κs. refusalIn) low-bytes-contract.Learnt
+low-bytes κs i a s p = rw (p .0, refusal-in) (fill-right _ _)
+
+pub sound-words : PlacesRight 2 sound-words-types.ps sound-words-types.r (λ κs. refusalIn) sound-words-contract.Learnt
+sound-words κs i a s p = rw (p .0, refusal-in) (fill-right _ _)
+
+-- ---- rs and search
+
+pub remainder : PlacesRight 1 remainder-types.ps remainder-types.r (λ κs a. refusalIn (a .checked)) remainder-contract.Learnt
+unfolding dividedOf
+remainder κs i a s p = rw (p, refusal-in) (block-right _)
+
+pub search-repair : PlacesRight 1 search-repair-types.ps search-repair-types.r (λ κs. refusalIn) search-repair-contract.Learnt
+search-repair κs i a s p = rw (p .0, refusal-in) (decode-right _)
+
+-- ---- items
+
+pub item-place : PlacesRight 0 item-place-types.ps item-place-types.r (λ κs a. refusalIn (a .checked)) item-place-contract.Learnt
+item-place κs i a s p = rw p (place-right _)
+
+pub item-refusal : PlacesRight 1 item-refusal-types.ps item-refusal-types.r (λ κs. refusalIn) item-refusal-contract.Learnt
+item-refusal κs i a s p = rw (p, refusal-in) (item-right _ _)
+
+-- ---- record and view
+
+pub record-refusal : PlacesRight 1 record-refusal-types.ps record-refusal-types.r (λ κs. refusalIn) record-refusal-contract.Learnt
+record-refusal κs i a s p = rw (p, refusal-in) (record-right _)
+
+pub write-record : PlacesRight 2 write-record-types.ps write-record-types.r (λ κs. refusalIn) write-record-contract.Learnt
+write-record κs i a s p = rw (p .0, refusal-in) (written-right _ _)
+
+pub put-item : PlacesRight 2 put-item-types.ps put-item-types.r (λ κs. refusalIn) put-item-contract.Learnt
+put-item κs i a s p = rw (p .0, refusal-in) (put-right _ _ _)
+
+pub store-item : PlacesRight 2 store-item-types.ps store-item-types.r (λ κs. refusalIn) store-item-contract.Learnt
+store-item κs i a s p = rw (p .0, refusal-in) (store-right _ _ _)
+
+pub read-record : PlacesRight 1 read-record-types.ps read-record-types.r (λ κs a. refusalIn (a .checked)) read-record-contract.Learnt
+unfolding recordReadOf
+read-record κs i a s p = rw (p, refusal-in) (record-right _)
+
+-- ---- repair, writing and reading
+
+pub packet-repair : PlacesRight 2 packet-repair-types.ps packet-repair-types.r (λ κs. refusalInRepair) packet-repair-contract.Learnt
+packet-repair κs i a s p = rw (p .0, repair-said) (repair-right _ _)
+
+pub count-fixed : PlacesRight 2 count-fixed-types.ps count-fixed-types.r (λ κs. refusalInRepair) count-fixed-contract.Learnt
+count-fixed κs i a s p = rw (p, count-said) (count-right _ _)
+
+pub write-packet : PlacesRight 2 write-packet-types.ps write-packet-types.r (λ κs. refusalInWriting) write-packet-contract.Learnt
+write-packet κs i a s p = rw (p .0, write-said) (write-right _ _ _)
+
+pub read-packet : PlacesRight 1 read-packet-types.ps read-packet-types.r (λ κs. refusalInReading) read-packet-contract.Learnt
+read-packet κs i a s p = rw (p, read-said) (read-right _)
+
+pub read-packet-into : PlacesRight 2 read-packet-into-types.ps read-packet-into-types.r (λ κs. refusalInReading) read-packet-into-contract.Learnt
+read-packet-into κs i a s p = rw (p .0, into-said) (into-right _ _)
+
+-- ---- steps and desk
+
+pub history-step : PlacesRight 1 history-step-types.ps history-step-types.r (λ κs a. refusalIn (a .checked)) history-step-contract.Learnt
+unfolding keptOf
+history-step κs i a s p = rw (p, refusal-in) (step-right _ _)
+
+pub put-back : PlacesRight 1 put-back-types.ps put-back-types.r (λ κs. refusalIn) put-back-contract.Learnt
+put-back κs i a s p = rw (p .0, refusal-in) (back-right _ _)
+
+pub desk-edit : PlacesRight 1 desk-edit-types.ps desk-edit-types.r (λ κs a. refusalIn (a .checked)) desk-edit-contract.Learnt
+unfolding edited
+desk-edit κs i a s p = rw (p, refusal-in) (item-right _ _)
+
+pub desk-undo : PlacesRight 0 desk-undo-types.ps desk-undo-types.r (λ κs a. refusalIn (a .checked)) desk-undo-contract.Learnt
+unfolding undone
+desk-undo κs i a s p = rw (p, refusal-in) (undo-right _)
+
+pub desk-send : PlacesRight 1 desk-send-types.ps desk-send-types.r (λ κs a. refusalIn (a .checked)) desk-send-contract.Learnt
+unfolding sent
+desk-send κs i a s p = rw (p .0, refusal-in) (send-right _ _)
+
+-- ---- follower
+
+pub follower-follow : PlacesRight 1 follower-follow-types.ps follower-follow-types.r (λ κs a. refusalInHeard (a .heard)) follower-follow-contract.Learnt
+follower-follow κs i a s p = rw (p, refusal-heard) (read-right _)
+
+-- ---- b40
+
+pub pack : PlacesRight 2 pack-types.ps pack-types.r (λ κs. refusalInWriting) pack-contract.Learnt
+pack κs i a s p = rw (p .0, pack-said) (pack-right _ _ _ _)
+
+pub unpack : PlacesRight 2 unpack-types.ps unpack-types.r (λ κs. refusalInField) unpack-contract.Learnt
+unpack κs i a s p = rw (p .0, unpack-said) (unpack-right _ _)
+
+-- ---- the calls for C
+
+-- number 0 with place 0 where nothing is refused, else those of the refusal
+answer-right : (o : Option Refusal) → RightIn o → RightPlace (answerBy o .number) (answerBy o .place)
+unfolding answerBy
+answer-right none q = record { of-item = λ t. absurd (false≢true t); else-zero = λ f. refl }
+answer-right (some why) q = q .right why refl
+
+-- so are those of a struct that carries that answer
+says-right : {number place : ℕ} {o : Option Refusal} → Says number place o → RightIn o → RightPlace number place
+says-right {o = o} s q = rw (s .number-is, s .place-is) (answer-right o q)
+
+pub ay-write-packet : AnswersRight 2 ay-write-packet-types.ps ay-write-packet-types.r (λ κs a. a .number) (λ κs a. a .place) ay-write-packet-contract.Learnt
+ay-write-packet κs i a s p = rw (p .0) (answer-right _ (write-right _ _ _))
+
+pub ay-read-packet : AnswersRight 1 ay-read-packet-types.ps ay-read-packet-types.r (λ κs a. a .number) (λ κs a. a .place) ay-read-packet-contract.Learnt
+ay-read-packet κs i a s p = rw p (says-right (packet-says _) (rw read-said (read-right _)))
+
+pub ay-read-packet-into : AnswersRight 2 ay-read-packet-into-types.ps ay-read-packet-into-types.r (λ κs a. a .number) (λ κs a. a .place) ay-read-packet-into-contract.Learnt
+ay-read-packet-into κs i a s p = rw (p .0) (says-right (packet-says _) (rw into-said (into-right _ _)))
+
+pub ay-repair : AnswersRight 2 ay-repair-types.ps ay-repair-types.r (λ κs a. a .number) (λ κs a. a .place) ay-repair-contract.Learnt
+ay-repair κs i a s p = rw (p .0) (says-right (repaired-says _) (rw repair-said (repair-right _ _)))
+
+pub ay-record-refusal : AnswersRight 1 ay-record-refusal-types.ps ay-record-refusal-types.r (λ κs a. a .number) (λ κs a. a .place) ay-record-refusal-contract.Learnt
+ay-record-refusal κs i a s p = rw p (answer-right _ (record-right _))
+
+pub ay-pack : AnswersRight 2 ay-pack-types.ps ay-pack-types.r (λ κs a. a .number) (λ κs a. a .place) ay-pack-contract.Learnt
+ay-pack κs i a s p = rw (p .0) (answer-right _ (pack-right _ _ _ _))
+
+pub ay-unpack : AnswersRight 2 ay-unpack-types.ps ay-unpack-types.r (λ κs a. a .number) (λ κs a. a .place) ay-unpack-contract.Learnt
+ay-unpack κs i a s p = rw (p .0) (says-right (field-says _) (rw unpack-said (unpack-right _ _)))
+
+pub ay-desk-edit : AnswersRight 1 ay-desk-edit-types.ps ay-desk-edit-types.r (λ κs a. a .number) (λ κs a. a .place) ay-desk-edit-contract.Learnt
+unfolding edited
+ay-desk-edit κs i a s p = rw p (says-right (turn-says _) (rw refusal-in (item-right _ _)))
+
+pub ay-desk-undo : AnswersRight 0 ay-desk-undo-types.ps ay-desk-undo-types.r (λ κs a. a .number) (λ κs a. a .place) ay-desk-undo-contract.Learnt
+unfolding undone
+ay-desk-undo κs i a s p = rw p (says-right (turn-says _) (rw refusal-in (undo-right _)))
+
+pub ay-desk-send : AnswersRight 1 ay-desk-send-types.ps ay-desk-send-types.r (λ κs a. a .number) (λ κs a. a .place) ay-desk-send-contract.Learnt
+unfolding sent
+ay-desk-send κs i a s p = rw (p .0) (says-right (turn-says _) (rw refusal-in (send-right _ _)))
+
+pub ay-follower-follow : AnswersRight 1 ay-follower-follow-types.ps ay-follower-follow-types.r (λ κs a. a .number) (λ κs a. a .place) ay-follower-follow-contract.Learnt
+ay-follower-follow κs i a s p = rw p (says-right (followed-says _) (rw refusal-heard (read-right _)))

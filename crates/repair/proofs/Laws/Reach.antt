@@ -1,0 +1,47 @@
+-- The test of the refusals against what is within reach, and when repair alone refuses with 9, BEYOND REPAIR.
+-- Assumes nothing.
+use mathlib.Core.Path.{_≡_, refl, sym, ap}
+use mathlib.Core.Bool.{Bool, true, false}
+use mathlib.Core.List.{List}
+use mathlib.Core.Logic.{_↔_, Iff·trans, Iff·not}
+use mathlib.Core.Option.{Option, none, some}
+use Prim.Native.Nat.{ℕ}
+use borrow.Author.Tests.{eq-eqb}
+use lib.Dec.{eqb}
+use lib.ListN.{length}
+use Rattle.basics.proofs.Laws.Test.{never}
+use Rattle.anc.specs.Words.{lowBytes, narrow}
+use Rattle.refusal.specs.Number.{numberOf, refusalPlain}
+use Rattle.refusal.specs.declared.Reason.the-variants.{BeyondRepair, Room}
+use Rattle.refusal.proofs.Laws.Chain.{passed-other, require-other, require-gives}
+use Rattle.rs.specs.Decode.{decode, given, repairable}
+use Rattle.rs.proofs.Laws.Decode.{decode-sound, decode-complete}
+use Rattle.repair.specs.Protected.{repairRefusal}
+use Rattle.repair.specs.Reach.{WithinReach}
+
+-- the test passes exactly when a codeword is within reach
+pub repairable-reach : (words : List ℕ) → (repairable (lowBytes words) ≡ true) ↔ WithinReach words
+unfolding repairable WithinReach
+repairable-reach words = (found (decode (lowBytes words)) refl, λ (c, W). ap given (decode-complete (lowBytes words) c (W .word) (W .long) (W .near)))
+  where
+    found : (o : Option (List ℕ)) → decode (lowBytes words) ≡ o → given o ≡ true → WithinReach words
+    found none e t = never (sym t)
+    found (some c) e t = (c, decode-sound (lowBytes words) c e)
+
+-- and fails exactly when none is
+pub beyond-reach : (words : List ℕ) → (repairable (lowBytes words) ≡ false) ↔ (WithinReach words → ⊥)
+beyond-reach words = Iff·trans (fails (repairable (lowBytes words))) (Iff·not (repairable-reach words))
+  where
+    fails : (t : Bool) → (t ≡ false) ↔ (t ≡ true → ⊥)
+    fails true = (never, λ n. absurd (n refl))
+    fails false = (λ e t. never (sym t), λ n. refl)
+
+-- of 254 words of ten bits, into any room
+pub repair-beyond : (words : List ℕ) (room : ℕ) → length words ≡ 254 → narrow words ≡ true
+    → (repairRefusal words room ≡ some (refusalPlain BeyondRepair)) ↔ (WithinReach words → ⊥)
+unfolding repairRefusal numberOf
+repair-beyond words room n w =
+    simp (eq-eqb (length words) 254 n, w)
+    (Iff·trans
+    (require-gives (repairable (lowBytes words)) (refusalPlain BeyondRepair) _ (λ e. passed-other _ (require-other (eqb room 254) (refusalPlain Room) _ _ e refl)))
+    (beyond-reach words))
