@@ -4,6 +4,32 @@ ghost use lib.ListN.{length};
 ghost use Rattle.items.specs.Item.{placeOf, ruleOf, reasonOf};
 use refusal::Reason;
 
+// Nine bytes, by value.
+fn nine(bytes: &[u8]) -> [u8; 9]
+    requires { ⌜ length (now bytes) ≡ 9 ⌝ }
+    ensures { λ r. ⌜ r ≡ now (bytes .entry) ⌝ }
+{
+    [
+        bytes[0],
+        bytes[1],
+        bytes[2],
+        bytes[3],
+        bytes[4],
+        bytes[5],
+        bytes[6],
+        bytes[7],
+        bytes[8],
+    ]
+}
+
+// Four bytes, by value.
+fn four(bytes: &[u8]) -> [u8; 4]
+    requires { ⌜ length (now bytes) ≡ 4 ⌝ }
+    ensures { λ r. ⌜ r ≡ now (bytes .entry) ⌝ }
+{
+    [bytes[0], bytes[1], bytes[2], bytes[3]]
+}
+
 // Do the bytes keep the item's rule? They are as many as the item has.
 pub(crate) fn rule(number: u8, bytes: &[u8]) -> bool
     requires { ⌜ length (now bytes) ≡ placeOf number .length ⌝ }
@@ -13,13 +39,13 @@ pub(crate) fn rule(number: u8, bytes: &[u8]) -> bool
         return rules::station(bytes);
     }
     if number == 2 {
-        return rules::time(bytes);
+        return rules::time(nine(bytes));
     }
     if number == 3 {
-        return rules::picture(bytes);
+        return rules::picture(four(bytes));
     }
     if number == 4 {
-        return rules::picture(bytes);
+        return rules::picture(four(bytes));
     }
     if number == 6 {
         return rules::sound_byte(bytes[0]);

@@ -17,13 +17,16 @@ pub fn record_refusal(bytes: &[u8]) -> Checked
     if bytes.len() != 248 {
         return Checked::Refused(refusal::plain(Reason::Size));
     }
+    let is_time = rules::time(nine(&bytes[8..17]));
+    let is_current = rules::picture(four(&bytes[17..21]));
+    let is_next = rules::picture(four(&bytes[21..25]));
     let current_sound = bytes[26];
     let next_sound = bytes[27];
     let size = Checked::Passed;
     let station = then(size, rules::station(&bytes[0..8]), Reason::Station, 1);
-    let time = then(station, rules::time(&bytes[8..17]), Reason::Time, 9);
-    let current = then(time, rules::picture(&bytes[17..21]), Reason::Picture, 18);
-    let next = then(current, rules::picture(&bytes[21..25]), Reason::Picture, 22);
+    let time = then(station, is_time, Reason::Time, 9);
+    let current = then(time, is_current, Reason::Picture, 18);
+    let next = then(current, is_next, Reason::Picture, 22);
     let sound = then(next, rules::sound_byte(current_sound), Reason::Sound, 27);
     then(sound, rules::sound_byte(next_sound), Reason::Sound, 28)
 }
@@ -38,8 +41,8 @@ pub fn write_record(bytes: &[u8], out: &mut [u8]) -> Checked
     if out.len() != 248 {
         return Checked::Refused(refusal::plain(Reason::Room));
     }
-    let current = rules::picture_clean(mode(&bytes[17..21]));
-    let next = rules::picture_clean(mode(&bytes[21..25]));
+    let current = rules::picture_clean(four(&bytes[17..21]));
+    let next = rules::picture_clean(four(&bytes[21..25]));
     let zeros = [0u8; 64];
     copy(out, bytes);
     copy(&mut out[17..21], &current);
@@ -48,8 +51,26 @@ pub fn write_record(bytes: &[u8], out: &mut [u8]) -> Checked
     Checked::Passed
 }
 
-// The four bytes of a picture mode.
-fn mode(bytes: &[u8]) -> [u8; 4]
+// Nine bytes, by value.
+fn nine(bytes: &[u8]) -> [u8; 9]
+    requires { ⌜ length (now bytes) ≡ 9 ⌝ }
+    ensures { λ r. ⌜ r ≡ now (bytes .entry) ⌝ }
+{
+    [
+        bytes[0],
+        bytes[1],
+        bytes[2],
+        bytes[3],
+        bytes[4],
+        bytes[5],
+        bytes[6],
+        bytes[7],
+        bytes[8],
+    ]
+}
+
+// Four bytes, by value.
+fn four(bytes: &[u8]) -> [u8; 4]
     requires { ⌜ length (now bytes) ≡ 4 ⌝ }
     ensures { λ r. ⌜ r ≡ now (bytes .entry) ⌝ }
 {
@@ -128,7 +149,7 @@ pub fn store_item(number: u8, bytes: &[u8], out: &mut [u8]) -> Checked
         Checked::Passed => {}
     }
     if items::is_picture(number) {
-        let clean = rules::picture_clean(mode(bytes));
+        let clean = rules::picture_clean(four(bytes));
         return put_item(number, &clean, out);
     }
     put_item(number, bytes, out)

@@ -1,10 +1,9 @@
 // The rules of the record's items: what each may hold, and which of its bits are read. Each answer is one test, whose parts are all
-// computed: none of them can fail, and none needs another to pass first. Another number of bytes than the item has keeps no rule.
+// computed: none of them can fail, and none needs another to pass first. A time and a picture mode are handed in by value, so that there is no
+// other number of bytes to speak of.
 ghost use mathlib.Core.Path.{_≡_};
-ghost use mathlib.Core.Bool.{cond, _&&_};
+ghost use mathlib.Core.Bool.{cond};
 ghost use Prim.Native.Nat.{_*_, _/_, _%_, _≤_, _<_};
-ghost use lib.Dec.{eqb};
-ghost use lib.ListN.{length};
 ghost use Rattle.rules.specs.Rules.{within, oneOf, stationByte, stationRule, timeByte, timeRule, pictureRule, pictureClean, soundByte};
 
 // Is n one of low to high?
@@ -59,13 +58,10 @@ fn time_byte(low: u8, high: u8, b: u8) -> bool
     (b == 0xFF) | ((tens <= 9) & (units <= 9) & between(low, high, tens * 10 + units))
 }
 
-// May these bytes, nine of them, stand for a time? The last two, the milliseconds, are both sent or both not.
-pub fn time(w: &[u8]) -> bool
-    ensures { λ r. ⌜ r ≡ (eqb (length (now (w .entry))) 9 && timeRule (now (w .entry))) ⌝ }
+// May these nine bytes stand for a time? The last two, the milliseconds, are both sent or both not.
+pub fn time(w: [u8; 9]) -> bool
+    ensures { λ r. ⌜ r ≡ timeRule w ⌝ }
 {
-    if w.len() != 9 {
-        return false;
-    }
     let date = time_byte(0, 99, w[0])
         & time_byte(1, 12, w[1])
         & time_byte(1, 31, w[2])
@@ -77,13 +73,10 @@ pub fn time(w: &[u8]) -> bool
 
 // ---- items 3 and 4, picture mode
 
-// May these bytes, four of them, stand for a picture mode?
-pub fn picture(w: &[u8]) -> bool
-    ensures { λ r. ⌜ r ≡ (eqb (length (now (w .entry))) 4 && pictureRule (now (w .entry))) ⌝ }
+// May these four bytes stand for a picture mode?
+pub fn picture(w: [u8; 4]) -> bool
+    ensures { λ r. ⌜ r ≡ pictureRule w ⌝ }
 {
-    if w.len() != 4 {
-        return false;
-    }
     let rate = one_of(&[0, 2, 3, 5, 6, 7, 9, 10, 11], w[1] % 16);
     let sampling = one_of(&[0, 1, 2, 3, 4, 5, 6, 8, 9, 10], w[2] % 16);
     (w[0] == 0) | (between(0x81, 0x85, w[0]) & rate & sampling)

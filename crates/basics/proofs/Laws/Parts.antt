@@ -60,6 +60,10 @@ pub part-entries : (n i : ℕ) (l : List ℕ) → i + n ≤ length l → take n 
 part-entries zero i l h = refl
 part-entries (suc n) i l h = one-more n i l (entries n (suc i) l) (omega arith) (part-entries n (suc i) l (omega arith))
 
+-- a list is all its entries
+pub all-entries : (n : ℕ) (l : List ℕ) → length l ≡ n → entries n 0 l ≡ l
+all-entries n l e = sym (part-entries n 0 l (omega arith)) ∙ take-all n l (omega arith)
+
 -- behind all entries but one stands the last
 pub last-one : (l : List ℕ) (i : ℕ) → length l ≡ suc i → drop i l ≡ getD l i 0 ∷ []
 last-one l i h = drop-cons l i 0 (omega arith) ∙ ap (λ (m : List ℕ). getD l i 0 ∷ m) (drop-of-length-le l {i = suc i} (omega arith))

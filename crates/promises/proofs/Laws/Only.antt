@@ -270,10 +270,10 @@ search-repair κs i a b s t p q = (p .0 ∙ sym (q .0), p .1 ∙ sym (q .1))
 pub station : OneAnswer 1 station-types.ps station-types.r station-contract.Learnt
 station κs i a b s t p q = p ∙ sym q
 
-pub time : OneAnswer 1 time-types.ps time-types.r time-contract.Learnt
+pub time : OneAnswer 0 time-types.ps time-types.r time-contract.Learnt
 time κs i a b s t p q = p ∙ sym q
 
-pub picture : OneAnswer 1 picture-types.ps picture-types.r picture-contract.Learnt
+pub picture : OneAnswer 0 picture-types.ps picture-types.r picture-contract.Learnt
 picture κs i a b s t p q = p ∙ sym q
 
 pub picture-clean : OneAnswer 0 picture-clean-types.ps picture-clean-types.r picture-clean-contract.Learnt

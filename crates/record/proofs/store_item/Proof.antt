@@ -13,8 +13,8 @@ returns c =
     let a = k .before .before .before .args in
     store-refused (a .number) (a .bytes .now) (a .out .now) (k .item-refusal .result) (k .item-refusal .ensures) _ (c .before .checked .given .1)
 
-mode-requires : tie.Need-mode-requires
-mode-requires c κs =
+four-requires : tie.Need-four-requires
+four-requires c κs =
     let i = c .before in
     let t = i .before in
     let k = t .before .before in
@@ -35,7 +35,7 @@ returns-2 c =
     let A = accepted (a .number) (a .bytes .now) (a .out .now) (k .item-refusal .result) (k .item-refusal .ensures) s in
     let M = mode-stored (a .number) (a .bytes .now) A (sym (i .is-picture .ensures) ∙ o .before .if1 .taken) in
     store-put (a .number) (a .bytes .now) (a .out .now) (k .item-refusal .result) (k .item-refusal .ensures) s (m .picture-clean .result) _ (p .put-item .result)
-    (m .picture-clean .ensures ∙ ap pictureClean (o .mode .ensures) ∙ M .1) (p .put-item .ensures .0) (p .put-item .ensures .1)
+    (m .picture-clean .ensures ∙ ap pictureClean (o .four .ensures) ∙ M .1) (p .put-item .ensures .0) (p .put-item .ensures .1)
 
 returns-3 : tie.Need-returns-3
 returns-3 c =
@@ -57,7 +57,7 @@ store-item-spec =
     returns
     (λ c. search needs)
     (λ c κs. search needs)
-    mode-requires
+    four-requires
     (λ c κs. search needs)
     (λ c. search needs)
     (λ c κs. search needs)

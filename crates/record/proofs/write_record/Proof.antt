@@ -34,8 +34,8 @@ returns-3 c =
       sym (ap checkedOf (record-fits (a .bytes .now) (a .out .now) h o)),
       record-written (a .bytes .now) (a .out .now) h o _ _ _ _
           (w .copy .ensures)
-          (m .copy2 .ensures ∙ p .picture-clean .ensures ∙ ap pictureClean (p .before .mode .ensures))
-          (n .copy3 .ensures ∙ q .picture-clean2 .ensures ∙ ap pictureClean (q .before .mode2 .ensures))
+          (m .copy2 .ensures ∙ p .picture-clean .ensures ∙ ap pictureClean (p .before .four .ensures))
+          (n .copy3 .ensures ∙ q .picture-clean2 .ensures ∙ ap pictureClean (q .before .four2 .ensures))
           (z .copy4 .ensures),
     )
 

@@ -6,7 +6,6 @@ use mathlib.Core.List.{List, [], _∷_}
 use Prim.Native.Nat.{ℕ, _*_, _<_}
 use native.Mathlib.Omega.{arith}
 use lib.Dec.{eqb}
-use borrow.Author.Tests.{eq-eqb}
 use lib.ListN.{length, getD, take, drop}
 use lib.Seq.{drop-cons, take-all}
 use Rattle.basics.specs.Each.{all}
@@ -27,11 +26,6 @@ oneOf-all (m ∷ l) n = ap (_||_ (eqb n m)) (oneOf-all l n) ∙ either (eqb n m)
 pub found-more : (found hit : Bool) → not (found || hit) ≡ (not found && not hit)
 found-more true hit = refl
 found-more false hit = refl
-
--- ---- as many bytes as the item has
-
-pub long-enough : (l : List ℕ) (n : ℕ) (t : Bool) → length l ≡ n → (eqb (length l) n && t) ≡ t
-long-enough l n t e = rw (eq-eqb (length l) n e)
 
 -- ---- a rule of one byte, and both or neither
 

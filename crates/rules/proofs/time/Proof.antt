@@ -1,6 +1,5 @@
 -- `rules::time` meets its contract.
 -- Assumes nothing.
-use borrow.Author.Tests.{eq-eqb, ne-eqb}
 use Rattle.rules.specs.Rules.{timeRule}
 use Rattle.rules.proofs.Laws.Rules.{beq-same-sent}
 use borrow.Author.Needs.{needs}
@@ -8,22 +7,17 @@ use Rattle.rules.proofs.time.Statement.{statement}
 use Rattle.rules.proofs.time.Tie as tie
 
 returns : tie.Need-returns
-returns c = simp (ne-eqb _ _ (c .if1 .taken))
-
-returns-2 : tie.Need-returns-2
 unfolding timeRule
-returns-2 c =
-    let t9 = c .before .before in
-    let t8 = t9 .before .before in
-    let t7 = t8 .before .before in
-    let t6 = t7 .before .before in
-    let t5 = t6 .before .before in
-    let t4 = t5 .before .before in
-    let t3 = t4 .before .before in
-    let t2 = t3 .before .before in
-    let t1 = t2 .before .before in
+returns c =
+    let t8 = c .before in
+    let t7 = t8 .before in
+    let t6 = t7 .before in
+    let t5 = t6 .before in
+    let t4 = t5 .before in
+    let t3 = t4 .before in
+    let t2 = t3 .before in
+    let t1 = t2 .before in
     rw (
-      eq-eqb _ _ (t1 .before .before .if1 .left),
       t1 .time-byte .ensures,
       t2 .time-byte2 .ensures,
       t3 .time-byte3 .ensures,
@@ -32,7 +26,7 @@ returns-2 c =
       t6 .time-byte6 .ensures,
       t7 .time-byte7 .ensures,
       t8 .time-byte8 .ensures,
-      t9 .time-byte9 .ensures,
+      c .time-byte9 .ensures,
       beq-same-sent,
     )
 
@@ -40,7 +34,6 @@ pub time-spec : {M : Type 1} → statement M
 time-spec =
     tie.close
     (tie.spec
-    returns
     (λ c. search needs)
     (λ c κs. search needs)
     (λ c. search needs)
@@ -61,4 +54,4 @@ time-spec =
     (λ c κs. search needs)
     (λ c. search needs)
     (λ c. search needs)
-    returns-2)
+    returns)

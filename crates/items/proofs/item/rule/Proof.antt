@@ -1,12 +1,13 @@
 -- `items::item::rule` meets its contract: the number tells the row of the table, and a row without a rule lets anything pass.
 -- Assumes nothing.
-use mathlib.Core.Path.{_≡_, refl, sym, _∙_}
+use mathlib.Core.Path.{_≡_, refl, sym, ap, _∙_}
 use mathlib.Core.Bool.{true}
 use native.Mathlib.Omega.{arith}
 use lib.ListN.{length}
 use Rattle.items.specs.Items.{items}
 use Rattle.items.specs.Item.{rowOf, placeIn, placeOf, ruleIn, ruleOf}
-use Rattle.rules.proofs.Laws.Rules.{long-enough, sound-one}
+use Rattle.rules.specs.Rules.{timeRule, pictureRule}
+use Rattle.rules.proofs.Laws.Rules.{sound-one}
 use Rattle.items.proofs.Laws.Item.{long-at, no-rule}
 use borrow.Author.Needs.{needs}
 use Rattle.items.proofs.item.rule.Statement.{statement}
@@ -16,26 +17,30 @@ returns : tie.Need-returns
 unfolding ruleOf ruleIn rowOf items
 returns c = rw (c .before .if1 .taken) (c .station .ensures)
 
+-- as many bytes as the item has
+nine-requires : tie.Need-nine-requires
+unfolding placeOf placeIn rowOf items
+nine-requires c κs = let s = c .before .before .before in long-at (s .pre) (c .if2 .taken)
+
 returns-2 : tie.Need-returns-2
-unfolding ruleOf ruleIn rowOf items placeOf placeIn
-returns-2 c =
-    let e = c .before in
-    let s = e .before .before .before in
-    rw (e .if2 .taken) (c .time .ensures ∙ long-enough (s .args .bytes .now) 9 _ (long-at (s .pre) (e .if2 .taken)))
+unfolding ruleOf ruleIn rowOf items
+returns-2 c = rw (c .before .before .if2 .taken) (c .time .ensures ∙ ap timeRule (c .before .nine .ensures))
+
+four-requires : tie.Need-four-requires
+unfolding placeOf placeIn rowOf items
+four-requires c κs = let s = c .before .before .before .before in long-at (s .pre) (c .if3 .taken)
 
 returns-3 : tie.Need-returns-3
-unfolding ruleOf ruleIn rowOf items placeOf placeIn
-returns-3 c =
-    let e = c .before in
-    let s = e .before .before .before .before in
-    rw (e .if3 .taken) (c .picture .ensures ∙ long-enough (s .args .bytes .now) 4 _ (long-at (s .pre) (e .if3 .taken)))
+unfolding ruleOf ruleIn rowOf items
+returns-3 c = rw (c .before .before .if3 .taken) (c .picture .ensures ∙ ap pictureRule (c .before .four .ensures))
+
+four-requires-2 : tie.Need-four-requires-2
+unfolding placeOf placeIn rowOf items
+four-requires-2 c κs = let s = c .before .before .before .before .before in long-at (s .pre) (c .if4 .taken)
 
 returns-4 : tie.Need-returns-4
-unfolding ruleOf ruleIn rowOf items placeOf placeIn
-returns-4 c =
-    let e = c .before in
-    let s = e .before .before .before .before .before in
-    rw (e .if4 .taken) (c .picture2 .ensures ∙ long-enough (s .args .bytes .now) 4 _ (long-at (s .pre) (e .if4 .taken)))
+unfolding ruleOf ruleIn rowOf items
+returns-4 c = rw (c .before .before .if4 .taken) (c .picture2 .ensures ∙ ap pictureRule (c .before .four2 .ensures))
 
 shared-slice-read-sound-byte : tie.Need-shared-slice-read-sound-byte
 unfolding placeOf placeIn rowOf items
@@ -84,10 +89,13 @@ rule-spec =
     (tie.spec
     (λ c κs. search needs)
     returns
+    nine-requires
     (λ c κs. search needs)
     returns-2
+    four-requires
     (λ c κs. search needs)
     returns-3
+    four-requires-2
     (λ c κs. search needs)
     returns-4
     shared-slice-read-sound-byte
