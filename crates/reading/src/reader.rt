@@ -1,8 +1,6 @@
 // Reading a packet part by part: the words up to the header, the protected words and their bytes, the checksum, and what is told of them.
 ghost use mathlib.Core.Path.{_≡_};
-ghost use mathlib.Core.Bool.{true, _&&_};
-ghost use Prim.Native.Nat.{_<_, _/_, _%_};
-ghost use lib.Dec.{eqb};
+ghost use mathlib.Core.Bool.{true};
 ghost use lib.ListN.{length};
 ghost use Rattle.anc.specs.Word.{isSound, checksumOf};
 ghost use Rattle.anc.specs.Words.{soundWords};
@@ -10,7 +8,7 @@ ghost use Rattle.rs.specs.Decode.{changes};
 ghost use Rattle.basics.specs.Each.{all};
 ghost use Rattle.refusal.specs.Checked.{checkedOf};
 ghost use Rattle.refusal.specs.Chain.{leftBy};
-ghost use Rattle.reading.specs.Reading.{word, correctionOf, protectedOf, isFill, headRefusal, protectedRefusal, bodyRefusal, readRefusal};
+ghost use Rattle.reading.specs.Reading.{correctionOf, protectedOf, isFill, headRefusal, protectedRefusal, bodyRefusal, readRefusal};
 ghost use Rattle.reading.specs.Answer.{packetBy, tailRefusal, guardBytes, summedBy};
 use crate::Packet;
 use refusal::Checked;

@@ -18,7 +18,7 @@ use Rattle.items.specs.Item.{rowOf, placeOf, itemRefusal, cleanOf, itemPart, pu
 unfoldable pub itemLent : ℕ → List ℕ → List ℕ
 itemLent number bytes = cond (eqb (length bytes) 248) (itemPart number bytes) []
 
--- and how far on it begins; where there is nothing, at the beginning
+-- and how far on it begins; where there is nothing, at the beginning (of no item the first byte is 0, and 0 less 1 is 0)
 unfoldable pub itemStart : ℕ → List ℕ → ℕ
 itemStart number bytes = cond (eqb (length bytes) 248) (placeOf number .first - 1) 0
 

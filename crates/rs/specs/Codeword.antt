@@ -2,14 +2,13 @@
 -- their parity.
 -- Assumes nothing.
 use mathlib.Core.Path.{_≡_}
-use mathlib.Core.Bool.{cond}
 use mathlib.Core.List.{List, [], _∷_, _++_}
 use mathlib.Core.Option.{Option}
 use Prim.Native.Nat.{ℕ}
 use lib.Dec.{eqb}
 use lib.ListN.{length, take, drop}
 use Rattle.basics.specs.Below.{Bytes}
-use Rattle.refusal.specs.Chain.{require, passed}
+use Rattle.refusal.specs.Chain.{require, passed, leftBy}
 use Rattle.refusal.specs.Checked.{checkedOf}
 use Rattle.refusal.specs.Number.{refusalPlain}
 use Rattle.refusal.specs.declared.Reason.the-variants.{Size}
@@ -41,15 +40,15 @@ remainder g p (d ∷ ds) = remainder g (next g p d) ds
 unfoldable pub parityOf : List ℕ → List ℕ
 parityOf d = remainder divisorBytes (zeros 6) d
 
--- what the division leaves of a block of 254 bytes: the parity of the first 248, with the last six added; of another number, six zeros
-unfoldable pub leftOf : List ℕ → List ℕ
-leftOf block = cond (eqb (length block) 254) (parityOf (take 248 block) ⊞ drop 248 block) (zeros 6)
-
 -- 21: a block has 254 bytes
 unfoldable pub blockRefusal : List ℕ → Option Refusal
 blockRefusal block = require (eqb (length block) 254) (refusalPlain Size) passed
 
--- the answer: what the division leaves; beside a refusal, six zeros
+-- what the division leaves of a block: the parity of the first 248 bytes, with the last six added; beside a refusal, six zeros
+unfoldable pub leftOf : List ℕ → List ℕ
+leftOf block = leftBy (blockRefusal block) (parityOf (take 248 block) ⊞ drop 248 block) (zeros 6)
+
+-- the answer
 unfoldable pub dividedOf : List ℕ → Divided
 dividedOf block = record { checked = checkedOf (blockRefusal block); left = leftOf block }
 

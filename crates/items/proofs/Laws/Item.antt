@@ -12,10 +12,11 @@ use lib.ListN.{length, getD}
 use borrow.Author.Tests.{ne-eqb}
 use Rattle.refusal.specs.Chain.{require, passed}
 use Rattle.refusal.specs.Number.{refusalAt, refusalPlain}
-use Rattle.refusal.specs.declared.Reason.the-variants.{Item, Size}
+use Rattle.refusal.specs.declared.Reason.the-variants.{Size}
 use Rattle.refusal.specs.declared.Refusal.{Refusal}
 use Rattle.refusal.specs.declared.Checked.the-variants.{Passed, Refused}
 use Rattle.refusal.specs.Checked.{checkedOf}
+use Rattle.refusal.proofs.Laws.Chain.{passed-refused}
 use Rattle.items.specs.declared.ItemPlace.{ItemPlace}
 use Rattle.items.specs.Items.{Row, free, items}
 use Rattle.items.specs.Item.{rowOf, refusedIn, itemRefusal, placeIn, placeOf, ruleIn, ruleOf, reasonIn, reasonOf}
@@ -135,7 +136,7 @@ row-zero = refl
 unplaced : (bytes : List ℕ) (o : Option Row) (why : Refusal) → placeIn o .checked ≡ Refused why → placeIn o .checked ≡ checkedOf (refusedIn bytes o)
 unfolding placeIn refusedIn
 unplaced bytes none why e = refl
-unplaced bytes (some i) why e = let z : _≡_ {A = ℕ} 0 1 = cc in absurd (omega arith)
+unplaced bytes (some i) why e = absurd (passed-refused why e)
 
 pub place-refused : (n : ℕ) (bytes : List ℕ) (p : ItemPlace) (why : Refusal) → p ≡ placeOf n → p .checked ≡ Refused why → p .checked ≡ checkedOf (itemRefusal n bytes)
 unfolding itemRefusal placeOf
@@ -147,7 +148,7 @@ place-refused n bytes p why e r =
 placed : (bytes : List ℕ) (o : Option Row) → placeIn o .checked ≡ Passed
     → refusedIn bytes o ≡ require (eqb (length bytes) (placeIn o .length)) (refusalPlain Size) (require (ruleIn bytes o) (refusalAt (reasonIn o) (placeIn o .first)) passed)
 unfolding refusedIn placeIn ruleIn reasonIn
-placed bytes none e = let z : _≡_ {A = ℕ} 0 1 = cc in absurd (omega arith)
+placed bytes none e = absurd (passed-refused _ (sym e))
 placed bytes (some i) e = refl
 
 pub item-checks : (n : ℕ) (bytes : List ℕ) (p : ItemPlace) → p ≡ placeOf n → p .checked ≡ Passed

@@ -1,9 +1,8 @@
 -- Demand 1: the place of a refusal is the item's first byte for 11 to 14, else 0. Of each public call that can refuse, under its name, with its
 -- crate's where two share one; and of the calls for C. `Learnt` is the contract as its caller may use it.
 -- Assumes nothing.
-use mathlib.Core.Path.{_≡_, refl}
+use mathlib.Core.Path.{refl}
 use mathlib.Core.Bool.{false≢true}
-use mathlib.Core.List.{List}
 use mathlib.Core.Option.{Option, none, some}
 use Prim.Native.Nat.{ℕ}
 use Rattle.refusal.specs.Checked.{refusalIn}

@@ -17,7 +17,7 @@ use Rattle.refusal.specs.Number.{refusalPlain}
 use Rattle.refusal.specs.declared.Reason.{Reason}
 use Rattle.refusal.specs.declared.Reason.the-variants.{Picture, Size, Room}
 use Rattle.refusal.specs.declared.Refusal.{Refusal}
-use Rattle.refusal.proofs.Laws.Chain.{require-passed, told}
+use Rattle.refusal.proofs.Laws.Chain.{require-passed, told, passed-refused}
 use Rattle.basics.specs.Below.{Bytes}
 use Rattle.basics.proofs.Laws.Below.{entry-below, append-below, take-below, drop-below}
 use Rattle.basics.proofs.Laws.Test.{both-left, both-right}
@@ -335,10 +335,6 @@ pub record Placed (p : ItemPlace) (o : Option Row) : Type 0 where
   pub first : p .first ≡ row .first
   pub length : p .length ≡ row .long
 
--- an answer is not both
-not-both : (why : Refusal) → Passed ≡ Refused why → ⊥
-not-both why e = let z : _≡_ {A = ℕ} 0 1 = cc in omega arith
-
 module _ (n : ℕ) (p : ItemPlace) (e : p ≡ placeOf n) where
   pub place-inside : p .first - 1 + p .length ≤ 43
   unfolding placeOf placeIn
@@ -346,13 +342,13 @@ module _ (n : ℕ) (p : ItemPlace) (e : p ≡ placeOf n) where
 
   pub no-place : (why : Refusal) → p .checked ≡ Refused why → rowOf n items ≡ none
   unfolding placeOf placeIn
-  no-place why = rw e (by-row n (λ o. placeIn o .checked ≡ Refused why → o ≡ none) (λ z. refl) (λ i f s z. absurd (not-both why z)))
+  no-place why = rw e (by-row n (λ o. placeIn o .checked ≡ Refused why → o ≡ none) (λ z. refl) (λ i f s z. absurd (passed-refused why z)))
 
   pub a-place : p .checked ≡ Passed → Placed p (rowOf n items)
   unfolding placeOf placeIn
   a-place =
       rw e
-      (by-row n (λ o. placeIn o .checked ≡ Passed → Placed (placeIn o) o) (λ z. absurd (not-both _ (sym z)))
+      (by-row n (λ o. placeIn o .checked ≡ Passed → Placed (placeIn o) o) (λ z. absurd (passed-refused _ (sym z)))
       (λ i f s z. record { row = i; is = refl; counted = s .counted; first = refl; length = refl }))
 
 -- the bytes of an item, and what they are stored as, are as many as it has
@@ -439,7 +435,7 @@ module _ (n : ℕ) (p : ItemPlace) (bytes old : List ℕ) (e : p ≡ placeOf n) 
   none-put : (o : Option Row) (why : Refusal) → placeIn o .checked ≡ Refused why → (placeIn o .checked ≡ checkedOf (putRefusedIn bytes (length old) o)) × (old ≡ leftBy (putRefusedIn bytes (length old) o) (putIn bytes old o) old)
   unfolding placeIn putRefusedIn
   none-put none why z = (refl, refl)
-  none-put (some i) why z = absurd (not-both why z)
+  none-put (some i) why z = absurd (passed-refused why z)
 
   pub put-none : (why : Refusal) → p .checked ≡ Refused why → (p .checked ≡ checkedOf (putRefusal n bytes (length old))) × (old ≡ putLeaves n bytes old)
   unfolding placeOf putRefusal putLeaves putItem

@@ -61,6 +61,10 @@ refusal-in (some why) = refl
 pub told : (o : Option Refusal) (a b : Checked) → a ≡ checkedOf o → a ≡ b → o ≡ refusalIn b
 told o a b e d = sym (refusal-in o) ∙ ap refusalIn (sym e ∙ d)
 
+-- an answer is not both
+pub passed-refused : (why : Refusal) → Passed ≡ Refused why → ⊥
+passed-refused why e = passed-other why (ap refusalIn e)
+
 -- ---- a test that a call answered
 
 pub passes : {r s : Bool} → r ≡ s → not r ≡ false → s ≡ true

@@ -59,11 +59,11 @@ codeword-vanishes w c j h =
 -- ---- what the division leaves of a block
 
 pub left-short : (l : List ℕ) → (length l ≡ 254 → ⊥) → leftOf l ≡ zeros 6
-unfolding leftOf
+unfolding leftOf blockRefusal
 left-short l n = rw (ne-eqb _ _ n) refl
 
 pub left-long : (l : List ℕ) → length l ≡ 254 → leftOf l ≡ parityOf (take 248 l) ⊞ drop 248 l
-unfolding leftOf
+unfolding leftOf blockRefusal
 left-long l n = rw (eq-eqb _ _ n) refl
 
 -- what a division answers

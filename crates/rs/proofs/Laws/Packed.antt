@@ -11,7 +11,7 @@ use lib.Bits.{bitXor, xor-block, xor-comm, xor-shifted}
 use lib.Dec.{lit<}
 use lib.ListN.{length, length-append, length-set, take, drop, getD, set}
 use lib.Pow.{pow-mono}
-use lib.Seq.{getD-drop, getD-set-same, getD-set-other}
+use lib.Seq.{take-all, getD-drop, getD-set-same, getD-set-other}
 use Rattle.gf256.specs.Field.{_⊕_, _⊗_, double, pow}
 use Rattle.basics.proofs.Laws.Test.{lt-or-le}
 use Rattle.gf256.proofs.Laws.Sum.{⊕-assoc, ⊕-comm, ⊕-self, ⊕-zero-r, ⊕-lt}
@@ -22,21 +22,9 @@ use Rattle.basics.specs.Below.{Bytes}
 use Rattle.rs.specs.Packed.{pack, unpack, turn, Multiples, Extended}
 use Rattle.rs.proofs.Laws.Polynomial.{length-⊞, length-scale, ⊞-bytes, scale-bytes}
 use Rattle.basics.proofs.Laws.Below.{at-below, append-below, drop-below}
+use Rattle.basics.proofs.Laws.Parts.{entries, part-entries, all-entries}
 use Rattle.rs.proofs.Laws.Division.{parity-length, parity-bytes, parity-step}
 use Rattle.rs.proofs.Laws.Codeword.{left-long, last-six, as-long}
-
--- ---- a list by its entries
-
--- f 0, f 1 and so on, n of them
-abbrev pub entries : ℕ → (ℕ → ℕ) → List ℕ
-entries zero f = []
-entries (suc n) f = f 0 ∷ entries n (λ i. f (suc i))
-
-pub entries-all : (n : ℕ) (l : List ℕ) → length l ≡ n → entries n (λ i. getD l i 0) ≡ l
-entries-all zero [] e = refl
-entries-all zero (a ∷ l) e = absurd (omega arith)
-entries-all (suc n) [] e = absurd (omega arith)
-entries-all (suc n) (a ∷ l) e = ap (λ (m : List ℕ). a ∷ m) (entries-all n l (suc-inj e))
 
 -- ---- sums
 
@@ -56,7 +44,7 @@ pack-⊞ (a ∷ l) (b ∷ m) e x y =
 pub pack-six : (l : List ℕ) → length l ≡ 6
     → ((((getD l 5 0 * 256 + getD l 4 0) * 256 + getD l 3 0) * 256 + getD l 2 0) * 256 + getD l 1 0) * 256 + getD l 0 0 ≡ pack l
 unfolding pack
-pack-six l h = let e : pack (entries 6 (λ i. getD l i 0)) ≡ pack l = ap pack (entries-all 6 l h) in omega arith
+pack-six l h = let e : pack (entries 6 0 l) ≡ pack l = ap pack (all-entries 6 l h) in omega arith
 
 -- ---- the bytes back again
 
@@ -148,12 +136,12 @@ look-up g t s j b e = ap (λ (n : ℕ). getD t n 0) e ∙ b (s % 256) (mod-lt s 
 
 -- the parity of the first 248 and the last six, one by one, add up to the remainder
 pub remainder-sum : (l : List ℕ) → length l ≡ 254 → ((i : ℕ) → getD l i 0 < 256)
-    → pack (parityOf (take 248 l)) ⊕ pack (entries 6 (λ i. getD l (248 + i) 0)) ≡ pack (parityOf (take 248 l) ⊞ drop 248 l)
+    → pack (parityOf (take 248 l)) ⊕ pack (entries 6 248 l) ≡ pack (parityOf (take 248 l) ⊞ drop 248 l)
 remainder-sum l e h =
     let m : List ℕ = drop 248 l in
     let p : List ℕ = parityOf (take 248 l) in
     let b : Bytes m = at-below 256 m (λ i. rw getD-drop (h (248 + i))) in
-    ap (λ (k : List ℕ). pack p ⊕ pack k) (simp getD-drop at (entries-all 6 m (last-six l e)))
+    ap (λ (k : List ℕ). pack p ⊕ pack k) (sym (part-entries 6 248 l (omega arith)) ∙ take-all 6 m (omega (arith, last-six l e)))
     ∙ sym (pack-⊞ p m (as-long l e) (parity-bytes (take 248 l)) b)
 
 -- and its six bytes are what the division leaves

@@ -22,7 +22,7 @@ use Rattle.basics.proofs.Laws.Test.{never}
 use Rattle.basics.proofs.Laws.Each.{same-equal, same-self}
 use Rattle.rs.specs.Decode.{changes}
 use Rattle.rs.proofs.Laws.Polynomial.{⊞-bytes, length-⊞, value-⊞}
-use Rattle.rs.proofs.Laws.Packed.{entries-all}
+use Rattle.basics.proofs.Laws.Parts.{all-entries}
 use Rattle.rs.proofs.Laws.Distance.{terms, length-terms, terms-sum, changes-weight, changes-zero, changes-self, changes-set}
 use Rattle.rs.proofs.Laws.Codeword.{codeword-vanishes, vanishing-codeword, left-value, zero-codeword, codeword-zero}
 use Rattle.rs.proofs.Laws.Decode.{Answer, some-answer, none-answer, codeword-answer, decode-complete, decode-none}
@@ -83,7 +83,7 @@ falling n (suc d ∷ l) h b = (length l, omega arith, refl, zero-lt-suc d, b .0,
 pub six-zero : (l : List ℕ) → length l ≡ 6
     → (eqb (getD l 0 0) 0 && eqb (getD l 1 0) 0 && eqb (getD l 2 0) 0 && eqb (getD l 3 0) 0 && eqb (getD l 4 0) 0 && eqb (getD l 5 0) 0) ≡ same l (zeros 6)
 unfolding same
-six-zero l n = simp and-assoc (simp and-true at (ap (λ (m : List ℕ). same m (zeros 6)) (entries-all 6 l n)))
+six-zero l n = simp and-assoc (simp and-true at (ap (λ (m : List ℕ). same m (zeros 6)) (all-entries 6 l n)))
 
 -- ---- nothing is left of a codeword, and of any other block something
 

@@ -25,7 +25,6 @@ use Rattle.refusal.specs.declared.Checked.{Checked}
 use Rattle.refusal.specs.declared.Reason.the-variants.{Size}
 use Rattle.record.proofs.Laws.Stored.{part-long}
 use Rattle.steps.specs.declared.Step.{Step}
-use Rattle.steps.specs.declared.Kept.{Kept}
 use Rattle.steps.specs.Steps.{stepRoom, padded, stepOf, stepRefusal, keptOf, pushed, blank, oldOf, backRefusal, backFrom}
 
 -- ---- a step

@@ -6,7 +6,7 @@ use mathlib.Core.List.{List}
 use Prim.Native.Nat.{ℕ}
 use lib.ListN.{length}
 use Rattle.rs.specs.Polynomial.{scale}
-use Rattle.rs.proofs.Laws.Packed.{entries-all}
+use Rattle.basics.proofs.Laws.Parts.{all-entries}
 use Rattle.rs.proofs.division.doubled.Statement.{statement}
 use Rattle.rs.proofs.division.doubled.Tie as tie
 
@@ -15,7 +15,7 @@ unfolding scale
 returns c =
     let g : List ℕ = c .before .before .before .before .before .before .args .t1 in
     let h : length g ≡ 6 = search needs in
-    cc (ap (scale 2) (entries-all 6 g h))
+    cc (ap (scale 2) (all-entries 6 g h))
 
 pub doubled-spec : {M : Type 1} → statement M
 doubled-spec =
