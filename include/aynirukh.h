@@ -9,9 +9,10 @@
  * No call keeps a pointer, allocates, or waits. A desk and a follower are plain values, handed in and handed back: keep the one that
  * comes back.
  *
- * number is 0 where the call is done, else the refusal's number, and place says where (the first byte of the item for 11 to 14, else 0).
- * A refused call leaves its buffers as they were. The desk that it hands back is the one that was handed in, and the follower has one more
- * refusal counted and is otherwise the one that was handed in; what else stands beside number and place is 0.
+ * number is 0 where the call is done, else the refusal's number, and place says where (the first byte of the item for 11 to 14, the data byte
+ * whose word it is for 7, else 0). Beside 7 stand the wrong bits of that word. A refused call leaves its buffers as they were. The desk that it
+ * hands back is the one that was handed in, and the follower has one more refusal counted and is otherwise the one that was handed in; what
+ * else stands beside number, place and bits is 0.
  *
  *    No.  given when
  *     1   not 262 words
@@ -20,7 +21,7 @@
  *     4   DID is not 0x25F, or SDID is not 0x1FE
  *     5   the count word is not 0x2FF
  *     6   the header is not sound, or its b6 to b4 are not zero
- *     7   correction off: a data word is not sound
+ *     7   correction off: a data word is not sound; the place is that of the first one, 1 to 248
  *     8   correction off: one of the last six words is not 0x200
  *     9   correction on: no codeword within three bytes
  *    10   the checksum word is not that of the words as they are read
@@ -82,6 +83,9 @@ enum {
     AY_INDEX = 27
 };
 
+/* The bits of a word that are not what its b0 to b7 call for: their even parity in b8, and the inverse of that parity in b9. */
+enum { AY_NO_BIT = 0, AY_B8 = 1, AY_B9 = 2, AY_BOTH_BITS = 3 };
+
 /* The kinds of an accepted packet; AY_NONE where it is refused. */
 enum { AY_NONE = 0, AY_FIRST = 1, AY_NEXT = 2, AY_REPEAT = 3, AY_CONFLICT = 4 };
 
@@ -91,10 +95,19 @@ typedef struct {
     uint8_t place;
 } AyAnswer;
 
-/* The accepted packet: is correction on, its index CI, and how many protected words' ten bits changed. */
+/* Which bits of a word are wrong; AY_NO_BIT where it is sound, or refused. */
 typedef struct {
     uint8_t number;
     uint8_t place;
+    uint8_t bits;
+} AyWord;
+
+/* The accepted packet: is correction on, its index CI, and how many protected words' ten bits changed. With 7, which bits of the word at the
+ * place are wrong, else AY_NO_BIT. */
+typedef struct {
+    uint8_t number;
+    uint8_t place;
+    uint8_t bits;
     bool correction;
     uint8_t ci;
     uint8_t fixed;
@@ -151,11 +164,12 @@ typedef struct {
 } AyFollower;
 
 /* The follower handed back, the answer, and what the packet brought: its kind, CI, fixed words, the packets missed before it, and the
- * triggers that it sets, Q1 in bit 0 to Q32 in bit 31. */
+ * triggers that it sets, Q1 in bit 0 to Q32 in bit 31. With 7, which bits of the word at the place are wrong, else AY_NO_BIT. */
 typedef struct {
     AyFollower follower;
     uint8_t number;
     uint8_t place;
+    uint8_t bits;
     uint8_t kind;
     uint8_t ci;
     uint8_t fixed;
@@ -168,8 +182,8 @@ typedef struct {
 /* The ten-bit word that carries a byte. Refuses nothing. */
 uint16_t ay_word_of(uint8_t byte);
 
-/* Whether b8 and b9 are what b0 to b7 call for, and the word is at most 1,023. Refuses nothing. */
-bool ay_is_sound(uint16_t word);
+/* The word check: which of b8 and b9 are not what b0 to b7 call for; AY_NO_BIT for a sound word. Refuses 2, for a value over 1,023. */
+AyWord ay_check_word(uint16_t word);
 
 /* The checksum word of any number of words. Refuses nothing. */
 uint16_t ay_checksum(const uint16_t *words, size_t words_len);

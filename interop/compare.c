@@ -1,7 +1,9 @@
 /* Compares the archive with libfec, with a check of our own, and with GStreamer's encoder of ancillary data:
  *   - deliveries of 254 words: clean, with one to eight changed bytes, with wrong upper bits, and junk; repair must give exactly what the check
  *     finds, and agree with libfec wherever libfec gives a codeword within three bytes or gives up;
- *   - packets: the 262 words of random records must be those of GStreamer's encoder, and must read back.
+ *   - packets: the 262 words of random records must be those of GStreamer's encoder, and must read back;
+ *   - every number of 16 bits through the word check, and packets with correction off in which upper bits are wrong: what is wrong, and of which
+ *     word, must be as counted here.
  * The last line says how many of each were equal; the exit status is 0 only if all were. */
 #include <fec.h>
 #include <gst/video/video-anc.h>
@@ -258,6 +260,36 @@ static void packet(GstVideoVBIEncoder *encoder, guint8 *line, long n)
         fail("reading", n);
 }
 
+/* what is wrong with a word, by counting its ones: 1 b8, 2 b9, 3 both */
+static int wrong_bits(unsigned word)
+{
+    unsigned parity = 0;
+    for (int i = 0; i < 8; i++)
+        parity ^= word >> i & 1;
+    return ((word >> 8 & 1) != parity) + 2 * ((word >> 9 & 1) == parity);
+}
+
+/* data words of a packet with correction off are changed: reading names the first that is not sound, and what is wrong with it */
+static void unsound(long n)
+{
+    uint16_t words[AY_PACKET_WORDS];
+    AyDesk desk = ay_desk_open(false);
+    if (ay_write_packet(false, (uint8_t)(n % 16), desk.bytes, DATA, words, AY_PACKET_WORDS).number != AY_DONE)
+        fail("writing with correction off", n);
+    for (long i = 0; i <= n % 4; i++)
+        words[7 + next() % DATA] ^= (uint16_t)(1u << next() % 10 | 1u << next() % 10);
+    int place = 0;
+    for (int i = DATA; i >= 1; i--)
+        if (wrong_bits(words[6 + i]))
+            place = i;
+    AyPacket p = ay_read_packet(words, AY_PACKET_WORDS);
+    AyFollowed f = ay_follower_follow(ay_follower_open(), words, AY_PACKET_WORDS);
+    if (place ? p.number != AY_PARITY || p.place != place || p.bits != wrong_bits(words[6 + place]) : p.number == AY_PARITY || p.bits)
+        fail("the first unsound word", n);
+    if (f.number != p.number || f.place != p.place || f.bits != p.bits)
+        fail("following", n);
+}
+
 int main(int argc, char **argv)
 {
     long deliveries = argc > 1 ? atol(argv[1]) : 1100000, packets = argc > 2 ? atol(argv[2]) : 20000;
@@ -267,6 +299,15 @@ int main(int argc, char **argv)
         fail("libfec gives no code, which", 0);
     for (long n = 0; n < deliveries; n++)
         delivery(n);
+    for (unsigned word = 0; word < 65536; word++) {
+        AyWord w = ay_check_word((uint16_t)word);
+        if (word < 1024 ? w.number != AY_DONE || w.bits != wrong_bits(word) : w.number != AY_WIDE || w.bits)
+            fail("the word check", word);
+        if (w.place)
+            fail("the place of a word", word);
+    }
+    for (long n = 0; n < packets; n++)
+        unsound(n);
     static guint8 line[1920 * 2 * 4];
     for (long n = 0; n < packets; n++) {
         GstVideoVBIEncoder *encoder = gst_video_vbi_encoder_new(GST_VIDEO_FORMAT_v210, 1920);
@@ -275,6 +316,7 @@ int main(int argc, char **argv)
         packet(encoder, line, n);
         gst_video_vbi_encoder_free(encoder);
     }
-    printf("compare: %ld deliveries equal to libfec and to our check, %ld packets equal to GStreamer's\n", deliveries, packets);
+    printf("compare: %ld deliveries equal to libfec and to our check, %ld packets equal to GStreamer's, 65536 words and %ld packets with unsound words "
+           "as counted\n", deliveries, packets, packets);
     return 0;
 }

@@ -10,6 +10,8 @@
 #include "../include/aynirukh.h"
 
 /* The layouts are those of the Rattle structs, which have them by C's rules. */
+typedef char word_is_3_bytes[sizeof(AyWord) == 3 ? 1 : -1];
+typedef char packet_is_6_bytes[sizeof(AyPacket) == 6 ? 1 : -1];
 typedef char desk_is_571_bytes[sizeof(AyDesk) == 571 ? 1 : -1];
 typedef char turn_is_573_bytes[sizeof(AyTurn) == 573 ? 1 : -1];
 typedef char follower_is_272_bytes[sizeof(AyFollower) == 272 ? 1 : -1];
@@ -44,8 +46,12 @@ static void words(void)
 {
     const uint16_t three[3] = { 0x3FF, 0x001, 0x002 };
     expect("the word of 0x85", ay_word_of(0x85), 0x185);
-    expect("0x20F is sound", ay_is_sound(0x20F), true);
-    expect("0x10F is sound", ay_is_sound(0x10F), false);
+    expect("bits of 0x20F, which is sound", ay_check_word(0x20F).bits, AY_NO_BIT);
+    expect("bits of 0x30F", ay_check_word(0x30F).bits, AY_B8);
+    expect("bits of 0x00F", ay_check_word(0x00F).bits, AY_B9);
+    expect("bits of 0x10F", ay_check_word(0x10F).bits, AY_BOTH_BITS);
+    expect("number of 0x20F", ay_check_word(0x20F).number, AY_DONE);
+    expect("number of 0x60F", ay_check_word(0x60F).number, AY_WIDE);
     expect("checksum of three words", ay_checksum(three, 3), 0x202);
 }
 
@@ -145,6 +151,25 @@ static void follows(AyDesk desk, const uint16_t *damaged)
     expect_bytes("the later record that the follower holds", heard.follower.rec, turn.desk.bytes, AY_RECORD_BYTES);
 }
 
+/* A card inverts b9 of two words of a packet with correction off: the first of them is named, and what is wrong with it. */
+static void upper_bits(const AyDesk *desk)
+{
+    uint16_t off[AY_PACKET_WORDS];
+    expect("number of writing, off", ay_write_packet(false, 0, desk->bytes, AY_RECORD_BYTES, off, AY_PACKET_WORDS).number, AY_DONE);
+    expect("bits of a packet that is accepted", ay_read_packet(off, AY_PACKET_WORDS).bits, AY_NO_BIT);
+    off[6 + 30] ^= 0x200;
+    off[6 + 248] ^= 0x200;
+    AyPacket packet = ay_read_packet(off, AY_PACKET_WORDS);
+    expect("number of an unsound word", packet.number, AY_PARITY);
+    expect("place of an unsound word", packet.place, 30);
+    expect("bits of an unsound word", packet.bits, AY_B9);
+    AyFollowed heard = ay_follower_follow(ay_follower_open(), off, AY_PACKET_WORDS);
+    printf("refused %d %d bits %d\n", heard.number, heard.place, heard.bits);
+    expect("number of an unsound word, followed", heard.number, AY_PARITY);
+    expect("place of an unsound word, followed", heard.place, 30);
+    expect("bits of an unsound word, followed", heard.bits, AY_B9);
+}
+
 /* The packet in a field, and out of it again. */
 static void fields(const uint16_t *sent)
 {
@@ -178,6 +203,7 @@ int main(void)
     damaged[17] ^= 0x004;
     damaged[260] = 0;
     readings(&turn.desk, sent, damaged);
+    upper_bits(&turn.desk);
     fields(sent);
     follows(turn.desk, damaged);
     return differences == 0 ? 0 : 1;

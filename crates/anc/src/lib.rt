@@ -3,7 +3,7 @@ ghost use mathlib.Core.Path.{_≡_};
 ghost use Prim.Native.Nat.{_<_};
 ghost use lib.ListN.{length};
 ghost use Rattle.refusal.specs.Checked.{checkedOf};
-ghost use Rattle.anc.specs.Word.{parityOf, withB9, wordOf, isSound, checksumOf};
+ghost use Rattle.anc.specs.Word.{parityOf, withB9, wordOf, checksumOf};
 ghost use Rattle.anc.specs.Words.{hasFlag, narrow, lowBytes, soundWords, fillRefusal, fillLeaves};
 use refusal::Checked;
 use refusal::Reason;
@@ -31,13 +31,6 @@ pub fn word_of(byte: u8) -> u16
     ensures { λ r. ⌜ r ≡ wordOf byte ⌝ }
 {
     byte as u16 + 256 * (2 - parity(byte)) as u16
-}
-
-// Is the word sound? It is when it is the word of its own low byte.
-pub fn is_sound(word: u16) -> bool
-    ensures { λ r. ⌜ r ≡ isSound word ⌝ }
-{
-    word == word_of((word % 256) as u8)
 }
 
 // The checksum word of a run of words. The sum may wrap at 65,536, of which 512 is a divisor, so one remainder at the end is

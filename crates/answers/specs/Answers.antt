@@ -1,12 +1,14 @@
 -- The answers of the crates as plain structs for C: for every case of an answer its number, its place and its values.
--- Number 0 is done. Beside a refusal, what the call would have given is 0.
+-- Number 0 is done. Beside a refusal, what the call would have given is 0; beside 7 stand the wrong bits of the word.
 -- Assumes nothing.
 use mathlib.Core.Bool.{false}
 use mathlib.Core.Option.{Option, none, some}
 use Prim.Native.Nat.{ℕ}
-use Rattle.refusal.specs.Number.{numberOf}
+use Rattle.refusal.specs.Number.{numberOf, bitsOf, bitsIn}
 use Rattle.refusal.specs.declared.Refusal.{Refusal}
 use Rattle.refusal.specs.Checked.{refusalIn}
+use Rattle.soundness.specs.declared.Soundness.{Soundness}
+use Rattle.soundness.specs.declared.Soundness.the-variants.{Sound, Unsound, Refused as RefusedWord}
 use Rattle.reading.specs.declared.Reading.{Reading}
 use Rattle.reading.specs.declared.Reading.the-variants.{Accepted, Refused}
 use Rattle.repair.specs.declared.Repaired.{Repaired}
@@ -21,6 +23,7 @@ use Rattle.follower.specs.declared.Heard.{Heard}
 use Rattle.follower.specs.declared.Heard.the-variants.{Accepted as Arrived, Refused as RefusedPacket}
 use Rattle.follower.specs.declared.Followed.{Followed}
 use Rattle.answers.specs.declared.AyAnswer.{AyAnswer}
+use Rattle.answers.specs.declared.AyWord.{AyWord}
 use Rattle.answers.specs.declared.AyPacket.{AyPacket}
 use Rattle.answers.specs.declared.AyRepaired.{AyRepaired}
 use Rattle.answers.specs.declared.AyField.{AyField}
@@ -42,12 +45,25 @@ unfoldable pub answerBy : Option Refusal → AyAnswer
 answerBy none = done
 answerBy (some why) = refusedFor why
 
+-- ---- word
+
+-- a refusal, and the bits that it carries: 1 b8, 2 b9, 3 both; 0 with every number but 7
+abbrev pub refusedWith : Refusal → AyWord
+refusedWith why = record { number = numberOf (why .reason); place = why .place; bits = bitsIn (why .reason) }
+
+-- what the word check answered: which bits are wrong
+unfoldable pub wordFrom : Soundness → AyWord
+wordFrom Sound = record { number = 0; place = 0; bits = 0 }
+wordFrom (Unsound wrong) = record { number = 0; place = 0; bits = bitsOf wrong }
+wordFrom (RefusedWord why) = refusedWith why
+
 -- ---- packet
 
 -- what reading answered: the packet's correction bit, index and fixed words
 unfoldable pub packetFrom : Reading → AyPacket
-packetFrom (Accepted p) = record { number = 0; place = 0; correction = p .correction; ci = p .ci; fixed = p .fixed }
-packetFrom (Refused why) = record { number = numberOf (why .reason); place = why .place; correction = false; ci = 0; fixed = 0 }
+packetFrom (Accepted p) = record { number = 0; place = 0; bits = 0; correction = p .correction; ci = p .ci; fixed = p .fixed }
+packetFrom (Refused why) =
+    record { number = numberOf (why .reason); place = why .place; bits = bitsIn (why .reason); correction = false; ci = 0; fixed = 0 }
 
 -- what repair answered: the fixed words
 unfoldable pub repairedFrom : Repaired → AyRepaired
@@ -84,6 +100,7 @@ heardFrom f (Arrived a) =
       follower = f;
       number = 0;
       place = 0;
+      bits = 0;
       kind = kindNumber (a .kind);
       ci = a .ci;
       fixed = a .fixed;
@@ -95,6 +112,7 @@ heardFrom f (RefusedPacket why) =
       follower = f;
       number = numberOf (why .reason);
       place = why .place;
+      bits = bitsIn (why .reason);
       kind = 0;
       ci = 0;
       fixed = 0;

@@ -2,7 +2,7 @@
 ghost use mathlib.Core.Path.{_≡_};
 ghost use Rattle.refusal.specs.Checked.{refusalIn};
 ghost use Rattle.writing.specs.Written.{refusalIn as refusalInWritten};
-ghost use Rattle.answers.specs.Answers.{refusedFor, answerBy, packetFrom, repairedFrom, fieldFrom, turnFrom, kindNumber, followedFrom};
+ghost use Rattle.answers.specs.Answers.{refusedFor, answerBy, refusedWith, wordFrom, packetFrom, repairedFrom, fieldFrom, turnFrom, kindNumber, followedFrom};
 use desk::Desk;
 use follower::Follower;
 use sequence::Kind;
@@ -16,11 +16,20 @@ pub struct AyAnswer {
     pub place: u8,
 }
 
-// The answer, and the packet that was accepted, or zeros.
+// The answer, and which bits of a word are wrong: 0 none, 1 b8, 2 b9, 3 both.
+#[repr(C)]
+pub struct AyWord {
+    pub number: u8,
+    pub place: u8,
+    pub bits: u8,
+}
+
+// The answer, with 7 the wrong bits of the word at the place, and the packet that was accepted, or zeros.
 #[repr(C)]
 pub struct AyPacket {
     pub number: u8,
     pub place: u8,
+    pub bits: u8,
     pub correction: bool,
     pub ci: u8,
     pub fixed: u8,
@@ -52,12 +61,13 @@ pub struct AyTurn {
     pub place: u8,
 }
 
-// The follower handed back, the answer, and what the packet brought, or zeros.
+// The follower handed back, the answer, with 7 the wrong bits of the word at the place, and what the packet brought, or zeros.
 #[repr(C)]
 pub struct AyFollowed {
     pub follower: Follower,
     pub number: u8,
     pub place: u8,
+    pub bits: u8,
     pub kind: u8,
     pub ci: u8,
     pub fixed: u8,
@@ -67,14 +77,26 @@ pub struct AyFollowed {
 
 // ---- an answer as its struct
 
+// The number and the place of a refusal, and the wrong bits that it carries.
+fn refused_with(why: refusal::Refusal) -> AyWord
+    ensures { λ r. ⌜ r ≡ refusedWith why ⌝ }
+{
+    let reason = why.reason;
+    AyWord {
+        number: refusal::number(reason),
+        place: why.place,
+        bits: refusal::bits_in(reason),
+    }
+}
+
 // The number and the place of a refusal.
 fn refused(why: refusal::Refusal) -> AyAnswer
     ensures { λ r. ⌜ r ≡ refusedFor why ⌝ }
 {
-    let reason = why.reason;
+    let answer = refused_with(why);
     AyAnswer {
-        number: refusal::number(reason),
-        place: why.place,
+        number: answer.number,
+        place: answer.place,
     }
 }
 
@@ -104,6 +126,25 @@ pub fn written(written: writing::Written) -> AyAnswer
     }
 }
 
+// Of the word check.
+pub fn word(soundness: soundness::Soundness) -> AyWord
+    ensures { λ r. ⌜ r ≡ wordFrom soundness ⌝ }
+{
+    match soundness {
+        soundness::Soundness::Sound => AyWord {
+            number: DONE,
+            place: 0,
+            bits: 0,
+        },
+        soundness::Soundness::Unsound(wrong) => AyWord {
+            number: DONE,
+            place: 0,
+            bits: refusal::bits(wrong),
+        },
+        soundness::Soundness::Refused(why) => refused_with(why),
+    }
+}
+
 // Of reading.
 pub fn packet(reading: reading::Reading) -> AyPacket
     ensures { λ r. ⌜ r ≡ packetFrom reading ⌝ }
@@ -112,15 +153,17 @@ pub fn packet(reading: reading::Reading) -> AyPacket
         reading::Reading::Accepted(p) => AyPacket {
             number: DONE,
             place: 0,
+            bits: 0,
             correction: p.correction,
             ci: p.ci,
             fixed: p.fixed,
         },
         reading::Reading::Refused(why) => {
-            let answer = refused(why);
+            let answer = refused_with(why);
             AyPacket {
                 number: answer.number,
                 place: answer.place,
+                bits: answer.bits,
                 correction: false,
                 ci: 0,
                 fixed: 0,
@@ -214,6 +257,7 @@ pub fn followed(followed: follower::Followed) -> AyFollowed
                 follower,
                 number: DONE,
                 place: 0,
+                bits: 0,
                 kind: kind_number(kind),
                 ci: a.ci,
                 fixed: a.fixed,
@@ -222,11 +266,12 @@ pub fn followed(followed: follower::Followed) -> AyFollowed
             }
         }
         follower::Heard::Refused(why) => {
-            let answer = refused(why);
+            let answer = refused_with(why);
             AyFollowed {
                 follower,
                 number: answer.number,
                 place: answer.place,
+                bits: answer.bits,
                 kind: 0,
                 ci: 0,
                 fixed: 0,

@@ -1,7 +1,8 @@
 // The calls for C: numbers, lent slices and plain structs, each under its plain name. What they say stands in include/aynirukh.h.
 ghost use mathlib.Core.Path.{_≡_};
 ghost use lib.ListN.{length};
-ghost use Rattle.anc.specs.Word.{wordOf, isSound, checksumOf};
+ghost use Rattle.anc.specs.Word.{wordOf, checksumOf};
+ghost use Rattle.soundness.specs.Check.{soundnessOf};
 ghost use Rattle.record.specs.Record.{recordRefusal};
 ghost use Rattle.writing.specs.Writing.{writeRefusal};
 ghost use Rattle.writing.specs.Written.{writeLeaves};
@@ -11,13 +12,14 @@ ghost use Rattle.desk.specs.Desk.{opened, edited, undone, sent, sendLeaves};
 ghost use Rattle.follower.specs.Follower.{followed, opened as nothingArrived};
 ghost use Rattle.b40.specs.Packing.{packRefusal, packLeaves};
 ghost use Rattle.b40.specs.Unpacking.{unpackedOf, unpackLeaves};
-ghost use Rattle.answers.specs.Answers.{answerBy, packetFrom, repairedFrom, fieldFrom, turnFrom, followedFrom};
+ghost use Rattle.answers.specs.Answers.{answerBy, wordFrom, packetFrom, repairedFrom, fieldFrom, turnFrom, followedFrom};
 use answers::AyAnswer;
 use answers::AyField;
 use answers::AyFollowed;
 use answers::AyPacket;
 use answers::AyRepaired;
 use answers::AyTurn;
+use answers::AyWord;
 use desk::Desk;
 use follower::Follower;
 
@@ -31,12 +33,13 @@ pub extern "C" fn ay_word_of(byte: u8) -> u16
     anc::word_of(byte)
 }
 
-// Is the word sound?
+// The word check: which of b8 and b9 are wrong.
 #[no_mangle]
-pub extern "C" fn ay_is_sound(word: u16) -> bool
-    ensures { λ r. ⌜ r ≡ isSound word ⌝ }
+pub extern "C" fn ay_check_word(word: u16) -> AyWord
+    ensures { λ r. ⌜ r ≡ wordFrom (soundnessOf word) ⌝ }
 {
-    anc::is_sound(word)
+    let soundness = soundness::check_word(word);
+    answers::word(soundness)
 }
 
 // The checksum word of a run of words.

@@ -1,10 +1,11 @@
--- The promises: worked values; demand 1 (Only, Refused, Places), demand 2 (Packets, History) and demand 3 (Line, with a line worked out); and
+-- The promises: worked values; demand 1 (Only, Refused, Places), demand 2 (Packets, Words, History) and demand 3 (Line, with a line worked out); and
 -- what is printed.
 pub mod Values
 pub mod Only
 pub mod Calls
 pub mod PacketCalls
 pub mod Packets
+pub mod Words
 pub mod Refused
 pub mod Placed
 pub mod Places

@@ -4,6 +4,7 @@ pub mod Refused
 pub mod Places
 pub mod Calls
 pub mod PacketCalls
+pub mod Words
 pub mod Packets
 pub mod History
 pub mod Line

@@ -1,4 +1,4 @@
--- The calls of the packet, through their contracts: which answers, and what left in a lent buffer, a contract allows.
+-- The calls of word and packet, through their contracts: which answers, and what left in a lent buffer, a contract allows.
 -- Assumes nothing.
 use mathlib.Core.Path.{_≡_}
 use mathlib.Core.Bool.{Bool}
@@ -9,6 +9,12 @@ use contract.Lifetimes.{Lfts}
 use denote.Ref.{now}
 use denote.Triple.Clauses.{AtExit}
 use Rattle.basics.specs.Below.{Bytes}
+use Rattle.refusal.specs.declared.Checked.{Checked}
+use Rattle.soundness.specs.declared.Soundness.{Soundness}
+use Rattle.soundness.proofs.check_word.Kinds as check-word-types
+use Rattle.soundness.proofs.check_word.Reads as check-word-contract
+use Rattle.soundness.proofs.check_words.Kinds as check-words-types
+use Rattle.soundness.proofs.check_words.Reads as check-words-contract
 use Rattle.writing.specs.declared.Written.{Written}
 use Rattle.writing.proofs.write_packet.Kinds as write-types
 use Rattle.writing.proofs.write_packet.Reads as write-contract
@@ -22,6 +28,22 @@ use Rattle.repair.proofs.repair.Kinds as repair-types
 use Rattle.repair.proofs.repair.Reads as repair-contract
 
 -- In each of these, `input` is what the call was given and `exit` what its parameters are once it has returned; `allowed` is the contract.
+
+-- the word is checked
+pub record ChecksWord (word : ℕ) (answer : Soundness) : Type 0 where
+  pub κs : Lfts 0
+  pub input : Dens κs check-word-types.ps
+  pub exit : AtExit (endedOf 0 check-word-types.ps check-word-types.r) κs
+  pub given : input .0 ≡ word
+  pub allowed : check-word-contract.Learnt κs input answer exit
+
+-- each of the words is checked
+pub record ChecksWords (words : List ℕ) (answer : Checked) : Type 0 where
+  pub κs : Lfts 1
+  pub input : Dens κs check-words-types.ps
+  pub exit : AtExit (endedOf 1 check-words-types.ps check-words-types.r) κs
+  pub lent : now (input .0) ≡ words
+  pub allowed : check-words-contract.Learnt κs input answer exit
 
 -- bytes are written as a packet, with correction on or off and an index, into a buffer that holds `old`, in which `left` is then left
 pub record Writes (on : Bool) (ci : ℕ) (bytes old : List ℕ) (answer : Written) (left : List ℕ) : Type 0 where

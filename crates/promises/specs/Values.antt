@@ -1,11 +1,15 @@
 -- Values on both sides of a line, as one table: what the definitions give at the cases that are marked to be proved.
 -- Assumes nothing.
 use mathlib.Core.Path.{_≡_}
-use mathlib.Core.Bool.{Bool, true, false}
+use mathlib.Core.Bool.{Bool, true, false, cond}
 use mathlib.Core.List.{List, [], _∷_, _++_}
-use Prim.Native.Nat.{ℕ}
+use Prim.Native.Nat.{ℕ, _+_, _-_, _^_}
+use lib.Dec.{eqb}
 use lib.ListN.{getD, replicate}
-use Rattle.anc.specs.Word.{wordOf}
+use Rattle.refusal.specs.declared.Wrong.the-variants.{B8, B9, Both}
+use Rattle.anc.specs.Word.{bit, wordOf, isSound}
+use Rattle.soundness.specs.declared.Soundness.the-variants.{Unsound}
+use Rattle.soundness.specs.Check.{soundnessOf}
 use Rattle.rs.specs.Codeword.{parityOf}
 use Rattle.rules.specs.Rules.{soundByte, pictureRule, timeRule}
 use Rattle.anc.specs.Words.{soundWords}
@@ -29,6 +33,10 @@ second b = timeRule (0xFF ∷ 0xFF ∷ 0xFF ∷ 0xFF ∷ 0xFF ∷ 0xFF ∷ b ∷
 abbrev pub missedFrom : ℕ → ℕ → ℕ
 missedFrom last new = missedOf (kindOf true (stepOf last new) false) (stepOf last new)
 
+-- a word with bit i inverted
+abbrev pub inverted : ℕ → ℕ → ℕ
+inverted i w = cond (eqb (bit i w) 1) (w - 2 ^ i) (w + 2 ^ i)
+
 pub record Values : Type 0 where
   pub byte-85 : wordOf 0x85 ≡ 0x185
   pub byte-0F : wordOf 0x0F ≡ 0x20F
@@ -50,3 +58,6 @@ pub record Values : Type 0 where
   pub second-60 : second 0x60 ≡ false
   pub index-15-then-0 : missedFrom 15 0 ≡ 0
   pub index-3-then-2 : missedFrom 3 2 ≡ 14
+  pub b8-inverted : (w : ℕ) → isSound w ≡ true → soundnessOf (inverted 8 w) ≡ Unsound B8
+  pub b9-inverted : (w : ℕ) → isSound w ≡ true → soundnessOf (inverted 9 w) ≡ Unsound B9
+  pub both-inverted : (w : ℕ) → isSound w ≡ true → soundnessOf (inverted 8 (inverted 9 w)) ≡ Unsound Both

@@ -4,4 +4,6 @@ pub mod Again
 pub mod Whole
 pub mod Reader
 pub mod Answer
+pub mod Numbers
 pub mod Beyond
+pub mod Parity

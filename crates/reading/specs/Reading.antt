@@ -1,17 +1,18 @@
 -- Reading a packet: its parts, what it is refused for in the order of the checks, what is read, and its words once it is written again.
 -- Assumes nothing.
 use mathlib.Core.Path.{_≡_}
-use mathlib.Core.Bool.{Bool, cond, _&&_}
+use mathlib.Core.Bool.{Bool, false, cond, _&&_}
 use mathlib.Core.List.{List, _++_}
 use mathlib.Core.Option.{Option}
 use Prim.Native.Nat.{ℕ, _/_, _%_}
 use lib.Dec.{eqb}
 use lib.ListN.{length, getD, take, drop}
 use Rattle.anc.specs.Word.{isSound, checksumOf}
+use Rattle.soundness.specs.Check.{unsoundFrom}
 use Rattle.basics.specs.Each.{all}
 use Rattle.refusal.specs.Chain.{require, next, passed}
 use Rattle.refusal.specs.Number.{refusalPlain}
-use Rattle.refusal.specs.declared.Reason.the-variants.{Length, Wide, Flag, Kind, Count, Header, Parity, Fill, BeyondRepair, Checksum, Room}
+use Rattle.refusal.specs.declared.Reason.the-variants.{Length, Wide, Flag, Kind, Count, Header, Fill, BeyondRepair, Checksum, Room}
 use Rattle.refusal.specs.declared.Refusal.{Refusal}
 use Rattle.rs.specs.Decode.{repairable}
 use Rattle.record.specs.Record.{broken, recordOf}
@@ -36,6 +37,10 @@ indexOf words = word words 6 % 16
 unfoldable pub protectedOf : List ℕ → List ℕ
 protectedOf words = take 254 (drop 7 words)
 
+-- of these, the words of data bytes 1 to 248
+abbrev pub dataWords : List ℕ → List ℕ
+dataWords guarded = take 248 guarded
+
 -- the protected words as they are read: rewritten where correction is on
 unfoldable pub readWords : List ℕ → List ℕ
 readWords words = cond (correctionOf words) (rewritten (protectedOf words)) (protectedOf words)
@@ -54,6 +59,10 @@ readFixed words = cond (correctionOf words) (fixedOf (protectedOf words)) 0
 
 -- ---- the checks
 
+-- is the word a header: sound, with b6 to b4 zero?
+abbrev pub isHeader : ℕ → Bool
+isHeader w = isSound w && eqb (w / 16 % 8) 0
+
 -- 1 to 6: the words up to the header
 unfoldable pub headRefusal : List ℕ → Option Refusal
 headRefusal words =
@@ -62,17 +71,17 @@ headRefusal words =
     (require (hasFlag words) (refusalPlain Flag)
     (require (eqb (word words 3) 0x25F && eqb (word words 4) 0x1FE) (refusalPlain Kind)
     (require (eqb (word words 5) 0x2FF) (refusalPlain Count)
-    (require (isSound (word words 6) && eqb (word words 6 / 16 % 8) 0) (refusalPlain Header) passed)))))
+    (require (isHeader (word words 6)) (refusalPlain Header) passed)))))
 
 -- is the word 0x200?
 abbrev pub isFill : ℕ → Bool
 isFill w = eqb w 0x200
 
--- the protected words, by the correction bit: 9, or 7 and 8
+-- the protected words, by the correction bit: 9; or 7 at the first data word that is not sound, and then 8
 unfoldable pub protectedRefusal : Bool → List ℕ → Option Refusal
 protectedRefusal correction guarded =
     cond correction (require (repairable (lowBytes guarded)) (refusalPlain BeyondRepair) passed)
-    (require (all isSound (take 248 guarded)) (refusalPlain Parity) (require (all isFill (drop 248 guarded)) (refusalPlain Fill) passed))
+    (next (unsoundFrom 1 (dataWords guarded)) (require (all isFill (drop 248 guarded)) (refusalPlain Fill) passed))
 
 -- 7 to 14: the protected words, the checksum and the record
 unfoldable pub bodyRefusal : List ℕ → Option Refusal
@@ -87,6 +96,10 @@ readRefusal words = next (headRefusal words) (bodyRefusal words)
 -- 1 to 14, then 23: where room for the record is lent
 unfoldable pub readIntoRefusal : List ℕ → ℕ → Option Refusal
 readIntoRefusal words room = next (readRefusal words) (require (eqb room 248) (refusalPlain Room) passed)
+
+-- correction is off, and nothing up to the header is refused
+abbrev pub OffPacket : List ℕ → Type 0
+OffPacket words = (headRefusal words ≡ passed) × (correctionOf words ≡ false)
 
 -- the record that is read
 unfoldable pub readRecord : List ℕ → List ℕ

@@ -2,30 +2,29 @@
 ghost use mathlib.Core.Path.{_≡_};
 ghost use mathlib.Core.Bool.{true};
 ghost use lib.ListN.{length};
-ghost use Rattle.anc.specs.Word.{isSound, checksumOf};
+ghost use Rattle.anc.specs.Word.{checksumOf};
 ghost use Rattle.anc.specs.Words.{soundWords};
 ghost use Rattle.rs.specs.Decode.{changes};
 ghost use Rattle.basics.specs.Each.{all};
 ghost use Rattle.refusal.specs.Checked.{checkedOf};
 ghost use Rattle.refusal.specs.Chain.{leftBy};
-ghost use Rattle.reading.specs.Reading.{correctionOf, protectedOf, isFill, headRefusal, protectedRefusal, bodyRefusal, readRefusal};
+ghost use Rattle.reading.specs.Reading.{correctionOf, protectedOf, isHeader, isFill, headRefusal, protectedRefusal, bodyRefusal, readRefusal};
 ghost use Rattle.reading.specs.Answer.{packetBy, tailRefusal, guardBytes, summedBy};
 use crate::Packet;
 use refusal::Checked;
 use refusal::Reason;
 use refusal::then;
 
-// Is each word sound?
-fn all_sound(words: &[u16]) -> bool
-    ensures { λ r. ⌜ r ≡ all isSound (now (words .entry)) ⌝ }
+// Is the word a header: sound, with b6 to b4 zero?
+fn is_header(word: u16) -> bool
+    ensures { λ r. ⌜ r ≡ isHeader word ⌝ }
 {
-    let mut ok = true;
-    let mut i = 0;
-    while i < words.len() {
-        ok = ok & anc::is_sound(words[i]);
-        i += 1;
+    let soundness = soundness::check_word(word);
+    match soundness {
+        soundness::Soundness::Sound => word / 16 % 8 == 0,
+        soundness::Soundness::Unsound(_) => false,
+        soundness::Soundness::Refused(_) => false,
     }
-    ok
 }
 
 // Is each word 0x200?
@@ -55,8 +54,7 @@ fn head_refusal(words: &[u16]) -> Checked
     let flag = then(wide, anc::has_flag(words), Reason::Flag, 0);
     let kind = then(flag, is_kind, Reason::Kind, 0);
     let count = then(kind, words[5] == 0x2FF, Reason::Count, 0);
-    let is_header = anc::is_sound(header) & (header / 16 % 8 == 0);
-    then(count, is_header, Reason::Header, 0)
+    then(count, is_header(header), Reason::Header, 0)
 }
 
 // Fills `out` with the bytes of the 254 protected words as they are read, and says what the words are refused for.
@@ -68,8 +66,7 @@ fn read_bytes(words: &[u16], correction: bool, out: &mut [u8]) -> Checked
     if correction {
         return search::repair(out);
     }
-    let none = Checked::Passed;
-    let parity = then(none, all_sound(&words[0..248]), Reason::Parity, 0);
+    let parity = soundness::check_words(&words[0..248]);
     then(parity, all_fill(&words[248..254]), Reason::Fill, 0)
 }
 

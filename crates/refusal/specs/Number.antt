@@ -2,6 +2,8 @@
 -- Assumes nothing.
 use mathlib.Core.List.{List, [], _∷_}
 use Prim.Native.Nat.{ℕ}
+use Rattle.refusal.specs.declared.Wrong.{Wrong}
+use Rattle.refusal.specs.declared.Wrong.the-variants.{B8, B9, Both}
 use Rattle.refusal.specs.declared.Reason.{Reason}
 use Rattle.refusal.specs.declared.Reason.the-variants.{Length, Wide, Flag, Kind, Count, Header, Parity, Fill, BeyondRepair, Checksum, Station, Time, Picture, Sound, Item, Size, NothingToUndo, Room, BrokenDesk, FieldLength, FieldHead, Index}
 use Rattle.refusal.specs.declared.Refusal.{Refusal}
@@ -18,7 +20,7 @@ numberOf Flag = 3
 numberOf Kind = 4
 numberOf Count = 5
 numberOf Header = 6
-numberOf Parity = 7
+numberOf (Parity wrong) = 7
 numberOf Fill = 8
 numberOf BeyondRepair = 9
 numberOf Checksum = 10
@@ -34,6 +36,37 @@ numberOf BrokenDesk = 24
 numberOf FieldLength = 25
 numberOf FieldHead = 26
 numberOf Index = 27
+
+-- what is wrong with a word that is not sound, as a number
+unfoldable pub bitsOf : Wrong → ℕ
+bitsOf B8 = 1
+bitsOf B9 = 2
+bitsOf Both = 3
+
+-- the bits that a reason carries: 0 for every one but PARITY
+unfoldable pub bitsIn : Reason → ℕ
+bitsIn Length = 0
+bitsIn Wide = 0
+bitsIn Flag = 0
+bitsIn Kind = 0
+bitsIn Count = 0
+bitsIn Header = 0
+bitsIn (Parity wrong) = bitsOf wrong
+bitsIn Fill = 0
+bitsIn BeyondRepair = 0
+bitsIn Checksum = 0
+bitsIn Station = 0
+bitsIn Time = 0
+bitsIn Picture = 0
+bitsIn Sound = 0
+bitsIn Item = 0
+bitsIn Size = 0
+bitsIn NothingToUndo = 0
+bitsIn Room = 0
+bitsIn BrokenDesk = 0
+bitsIn FieldLength = 0
+bitsIn FieldHead = 0
+bitsIn Index = 0
 
 -- a refusal for a reason, at a place
 abbrev pub refusalAt : Reason → ℕ → Refusal

@@ -1,11 +1,18 @@
 // The refusals: why a call says no, and at which byte. Every crate that can refuse answers with these, and its checks follow one another
 // by `then`.
 ghost use mathlib.Core.Path.{_≡_};
-ghost use Rattle.refusal.specs.Number.{numberOf, refusalAt, refusalPlain};
+ghost use Rattle.refusal.specs.Number.{numberOf, bitsOf, bitsIn, refusalAt, refusalPlain};
 ghost use Rattle.refusal.specs.Chain.{require, passed, next};
 ghost use Rattle.refusal.specs.Checked.{checkedOf, refusalIn};
 
-// One case for each number on the fixed list, in the list's order.
+// What is wrong with a word that is not sound: b8, b9 or both are not what b0 to b7 call for.
+pub enum Wrong {
+    B8,
+    B9,
+    Both,
+}
+
+// One case for each number on the fixed list, in the list's order. PARITY, and no other, says what is wrong with the word.
 pub enum Reason {
     Length,
     Wide,
@@ -13,7 +20,7 @@ pub enum Reason {
     Kind,
     Count,
     Header,
-    Parity,
+    Parity(Wrong),
     Fill,
     BeyondRepair,
     Checksum,
@@ -48,7 +55,7 @@ pub fn number(reason: Reason) -> u8
         Reason::Kind => 4,
         Reason::Count => 5,
         Reason::Header => 6,
-        Reason::Parity => 7,
+        Reason::Parity(_) => 7,
         Reason::Fill => 8,
         Reason::BeyondRepair => 9,
         Reason::Checksum => 10,
@@ -64,6 +71,27 @@ pub fn number(reason: Reason) -> u8
         Reason::FieldLength => 25,
         Reason::FieldHead => 26,
         Reason::Index => 27,
+    }
+}
+
+// What is wrong with a word, as a number: 1 is b8, 2 is b9, 3 is both.
+pub fn bits(wrong: Wrong) -> u8
+    ensures { λ r. ⌜ r ≡ bitsOf wrong ⌝ }
+{
+    match wrong {
+        Wrong::B8 => 1,
+        Wrong::B9 => 2,
+        Wrong::Both => 3,
+    }
+}
+
+// The bits that a reason carries: those of the word where it is PARITY, else 0.
+pub fn bits_in(reason: Reason) -> u8
+    ensures { λ r. ⌜ r ≡ bitsIn reason ⌝ }
+{
+    match reason {
+        Reason::Parity(wrong) => bits(wrong),
+        _ => 0,
     }
 }
 
@@ -100,5 +128,15 @@ pub fn then(earlier: Checked, ok: bool, reason: Reason, place: u8) -> Checked
                 Checked::Refused(Refusal { reason, place })
             }
         }
+    }
+}
+
+// The checks of one call behind those of another: a refusal of the first stands, else the second decides.
+pub fn next(first: Checked, second: Checked) -> Checked
+    ensures { λ r. ⌜ r ≡ checkedOf (next (refusalIn first) (refusalIn second)) ⌝ }
+{
+    match first {
+        Checked::Refused(why) => Checked::Refused(why),
+        Checked::Passed => second,
     }
 }

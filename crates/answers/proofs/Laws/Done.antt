@@ -14,6 +14,9 @@ use Rattle.refusal.specs.Number.{numberOf, fixedList}
 use Rattle.refusal.specs.declared.Reason.{Reason}
 use Rattle.refusal.specs.declared.Refusal.{Refusal}
 use Rattle.refusal.proofs.Laws.Number.{number-on-list}
+use Rattle.soundness.specs.declared.Soundness.{Soundness}
+use Rattle.soundness.specs.declared.Soundness.the-variants.{Sound, Unsound, Refused as RefusedWord}
+use Rattle.soundness.specs.Check.{refusalIn as refusalInWord}
 use Rattle.reading.specs.declared.Reading.{Reading}
 use Rattle.reading.specs.declared.Reading.the-variants.{Accepted, Refused}
 use Rattle.repair.specs.declared.Repaired.{Repaired}
@@ -30,7 +33,7 @@ use Rattle.follower.specs.declared.Heard.{Heard}
 use Rattle.follower.specs.declared.Heard.the-variants.{Accepted as Arrived, Refused as RefusedPacket}
 use Rattle.follower.specs.Follower.{refusalIn as refusalInHeard}
 use Rattle.follower.specs.declared.Followed.{Followed}
-use Rattle.answers.specs.Answers.{done, answerBy, packetFrom, repairedFrom, fieldFrom, turnFrom, heardFrom, followedFrom}
+use Rattle.answers.specs.Answers.{done, answerBy, wordFrom, packetFrom, repairedFrom, fieldFrom, turnFrom, heardFrom, followedFrom}
 
 -- ---- number 0
 
@@ -62,6 +65,12 @@ zero-none (some why) e = absurd (omega (arith, number-positive (why .reason)))
 pub record Says (number place : ℕ) (o : Option Refusal) : Type 0 where
   pub number-is : number ≡ answerBy o .number
   pub place-is : place ≡ answerBy o .place
+
+pub word-says : (a : Soundness) → Says (wordFrom a .number) (wordFrom a .place) (refusalInWord a)
+unfolding wordFrom answerBy
+word-says Sound = record { number-is = refl; place-is = refl }
+word-says (Unsound wrong) = record { number-is = refl; place-is = refl }
+word-says (RefusedWord why) = record { number-is = refl; place-is = refl }
 
 pub packet-says : (r : Reading) → Says (packetFrom r .number) (packetFrom r .place) (refusalInReading r)
 unfolding packetFrom answerBy

@@ -1,15 +1,23 @@
--- Nothing is lost on the way to C: two answers that give the same struct are the same answer.
+-- Nothing is lost on the way to C: two answers that give the same struct are the same answer. Where the struct has no bits, that is said of
+-- answers that are not refused with 7.
 -- Assumes nothing.
 use mathlib.Core.Path.{_≡_, refl, ap, sym, _∙_}
-use mathlib.Core.Bool.{cond}
+use mathlib.Core.Bool.{not, cond}
 use mathlib.Core.Option.{Option, none, some}
 use Prim.Native.Nat.{ℕ}
 use lib.Dec.{eqb}
 use native.Mathlib.Omega.{arith}
-use Rattle.refusal.specs.Number.{numberOf}
+use borrow.Author.Tests.{eqb-true}
+use Rattle.refusal.specs.Number.{numberOf, bitsOf, bitsIn}
+use Rattle.refusal.specs.declared.Wrong.{Wrong}
+use Rattle.refusal.specs.declared.Wrong.the-variants.{B8, B9, Both}
 use Rattle.refusal.specs.declared.Reason.{Reason}
+use Rattle.refusal.specs.declared.Reason.the-variants.{Parity}
 use Rattle.refusal.specs.declared.Refusal.{Refusal}
-use Rattle.refusal.proofs.Laws.Number.{number-inj}
+use Rattle.refusal.proofs.Laws.Number.{number-inj, bits-seven}
+use Rattle.refusal.proofs.Laws.Chain.{Without}
+use Rattle.soundness.specs.declared.Soundness.{Soundness}
+use Rattle.soundness.specs.declared.Soundness.the-variants.{Sound, Unsound, Refused as RefusedWord}
 use Rattle.reading.specs.declared.Reading.{Reading}
 use Rattle.reading.specs.declared.Reading.the-variants.{Accepted, Refused}
 use Rattle.repair.specs.declared.Repaired.{Repaired}
@@ -19,6 +27,8 @@ use Rattle.b40.specs.declared.Unpacked.the-variants.{Done as HeadOf, Refused as
 use Rattle.refusal.specs.declared.Checked.{Checked}
 use Rattle.refusal.specs.declared.Checked.the-variants.{Passed, Refused as RefusedCheck}
 use Rattle.refusal.specs.Checked.{checkedOf, refusalIn}
+use Rattle.repair.specs.Repair.{refusalIn as refusalInRepaired}
+use Rattle.b40.specs.Unpacking.{refusalIn as refusalInField}
 use Rattle.desk.specs.declared.Desk.{Desk}
 use Rattle.desk.specs.declared.Turn.{Turn}
 use Rattle.sequence.specs.declared.Kind.{Kind}
@@ -29,69 +39,103 @@ use Rattle.follower.specs.declared.Heard.{Heard}
 use Rattle.follower.specs.declared.Heard.the-variants.{Accepted as Arrived, Refused as RefusedPacket}
 use Rattle.follower.specs.declared.Followed.{Followed}
 use Rattle.answers.specs.declared.AyAnswer.{AyAnswer}
+use Rattle.answers.specs.declared.AyWord.{AyWord}
 use Rattle.answers.specs.declared.AyPacket.{AyPacket}
 use Rattle.answers.specs.declared.AyRepaired.{AyRepaired}
 use Rattle.answers.specs.declared.AyField.{AyField}
 use Rattle.answers.specs.declared.AyTurn.{AyTurn}
 use Rattle.answers.specs.declared.AyFollowed.{AyFollowed}
-use Rattle.answers.specs.Answers.{answerBy, packetFrom, repairedFrom, fieldFrom, turnFrom, kindNumber, heardFrom, followedFrom}
+use Rattle.answers.specs.Answers.{answerBy, wordFrom, packetFrom, repairedFrom, fieldFrom, turnFrom, kindNumber, heardFrom, followedFrom}
 use Rattle.answers.proofs.Laws.Done.{number-positive}
 
 -- no reason has number 0
 never-zero : {A : Type 0} (why : Reason) → numberOf why ≡ 0 → A
 never-zero why e = absurd (omega (arith, number-positive why))
 
--- a refusal is known by its number and place
-refusal-known : (a b : Refusal) → numberOf (a .reason) ≡ numberOf (b .reason) → a .place ≡ b .place → a ≡ b
-refusal-known a b n p = together (a .reason) (b .reason) (a .place) (b .place) (number-inj _ _ n) p
+-- a refusal is known by its number, place and bits
+refusal-known : (a b : Refusal) → numberOf (a .reason) ≡ numberOf (b .reason) → a .place ≡ b .place → bitsIn (a .reason) ≡ bitsIn (b .reason) → a ≡ b
+refusal-known a b n p q = together (a .reason) (b .reason) (a .place) (b .place) (number-inj _ _ n q) p
   where
     together : (r s : Reason) (x y : ℕ) → r ≡ s → x ≡ y → _≡_ {A = Refusal} (record { reason = r; place = x }) (record { reason = s; place = y })
     together r s x y e f = rw (e, f)
 
--- so is what an answer was made from
-known : (a b : Option Refusal) → answerBy a .number ≡ answerBy b .number → answerBy a .place ≡ answerBy b .place → a ≡ b
-unfolding answerBy
-known none none n p = refl
-known none (some b) n p = never-zero (b .reason) (sym n)
-known (some a) none n p = never-zero (a .reason) n
-known (some a) (some b) n p = ap some (refusal-known a b n p)
+-- one that is not 7 has none
+bare : (a : Refusal) → Without 7 (some a) → bitsIn (a .reason) ≡ 0
+bare a w = eqb-true (bitsIn (a .reason)) 0 (bits-seven (a .reason) ∙ ap not (w .other a refl))
 
-pub answer-tells : (a b : Option Refusal) → answerBy a ≡ answerBy b → a ≡ b
-answer-tells a b e = known a b (ap (λ (x : AyAnswer). x .number) e) (ap (λ (x : AyAnswer). x .place) e)
+-- and is known by its number and place
+bare-known : (a b : Refusal) → Without 7 (some a) → Without 7 (some b) → numberOf (a .reason) ≡ numberOf (b .reason) → a .place ≡ b .place → a ≡ b
+bare-known a b v w n p = refusal-known a b n p (bare a v ∙ sym (bare b w))
+
+-- so is what an answer was made from
+known : (a b : Option Refusal) → Without 7 a → Without 7 b → answerBy a .number ≡ answerBy b .number → answerBy a .place ≡ answerBy b .place → a ≡ b
+unfolding answerBy
+known none none v w n p = refl
+known none (some b) v w n p = never-zero (b .reason) (sym n)
+known (some a) none v w n p = never-zero (a .reason) n
+known (some a) (some b) v w n p = ap some (bare-known a b v w n p)
+
+pub answer-tells : (a b : Option Refusal) → Without 7 a → Without 7 b → answerBy a ≡ answerBy b → a ≡ b
+answer-tells a b v w e = known a b v w (ap (λ (x : AyAnswer). x .number) e) (ap (λ (x : AyAnswer). x .place) e)
+
+-- what is wrong with a word is known by its bits
+bits-known : (a b : Wrong) → bitsOf a ≡ bitsOf b → a ≡ b
+unfolding bitsIn
+bits-known a b e = let same : Parity a ≡ Parity b = number-inj (Parity a) (Parity b) (unfold numberOf in refl) e in cc
+
+bits-positive : {A : Type 0} (a : Wrong) → bitsOf a ≡ 0 → A
+unfolding bitsOf
+bits-positive B8 e = absurd (omega arith)
+bits-positive B9 e = absurd (omega arith)
+bits-positive Both e = absurd (omega arith)
+
+pub word-tells : (a b : Soundness) → wordFrom a ≡ wordFrom b → a ≡ b
+unfolding wordFrom
+word-tells Sound Sound e = refl
+word-tells Sound (Unsound b) e = bits-positive b (sym (ap (λ (x : AyWord). x .bits) e))
+word-tells Sound (RefusedWord b) e = never-zero (b .reason) (sym (ap (λ (x : AyWord). x .number) e))
+word-tells (Unsound a) Sound e = bits-positive a (ap (λ (x : AyWord). x .bits) e)
+word-tells (Unsound a) (Unsound b) e = ap Unsound (bits-known a b (ap (λ (x : AyWord). x .bits) e))
+word-tells (Unsound a) (RefusedWord b) e = never-zero (b .reason) (sym (ap (λ (x : AyWord). x .number) e))
+word-tells (RefusedWord a) Sound e = never-zero (a .reason) (ap (λ (x : AyWord). x .number) e)
+word-tells (RefusedWord a) (Unsound b) e = never-zero (a .reason) (ap (λ (x : AyWord). x .number) e)
+word-tells (RefusedWord a) (RefusedWord b) e =
+    ap RefusedWord (refusal-known a b (ap (λ (x : AyWord). x .number) e) (ap (λ (x : AyWord). x .place) e) (ap (λ (x : AyWord). x .bits) e))
 
 pub packet-tells : (a b : Reading) → packetFrom a ≡ packetFrom b → a ≡ b
 unfolding packetFrom
 packet-tells (Accepted p) (Accepted q) e = ap (λ (x : AyPacket). Accepted (record { correction = x .correction; ci = x .ci; fixed = x .fixed })) e
 packet-tells (Accepted p) (Refused b) e = never-zero (b .reason) (sym (ap (λ (x : AyPacket). x .number) e))
 packet-tells (Refused a) (Accepted q) e = never-zero (a .reason) (ap (λ (x : AyPacket). x .number) e)
-packet-tells (Refused a) (Refused b) e = ap Refused (refusal-known a b (ap (λ (x : AyPacket). x .number) e) (ap (λ (x : AyPacket). x .place) e))
+packet-tells (Refused a) (Refused b) e =
+    ap Refused (refusal-known a b (ap (λ (x : AyPacket). x .number) e) (ap (λ (x : AyPacket). x .place) e) (ap (λ (x : AyPacket). x .bits) e))
 
-pub repaired-tells : (a b : Repaired) → repairedFrom a ≡ repairedFrom b → a ≡ b
+pub repaired-tells : (a b : Repaired) → Without 7 (refusalInRepaired a) → Without 7 (refusalInRepaired b) → repairedFrom a ≡ repairedFrom b → a ≡ b
 unfolding repairedFrom
-repaired-tells (Fixed m) (Fixed n) e = ap (λ (x : AyRepaired). Fixed (x .fixed)) e
-repaired-tells (Fixed m) (RefusedRepair b) e = never-zero (b .reason) (sym (ap (λ (x : AyRepaired). x .number) e))
-repaired-tells (RefusedRepair a) (Fixed n) e = never-zero (a .reason) (ap (λ (x : AyRepaired). x .number) e)
-repaired-tells (RefusedRepair a) (RefusedRepair b) e =
-    ap RefusedRepair (refusal-known a b (ap (λ (x : AyRepaired). x .number) e) (ap (λ (x : AyRepaired). x .place) e))
+repaired-tells (Fixed m) (Fixed n) v w e = ap (λ (x : AyRepaired). Fixed (x .fixed)) e
+repaired-tells (Fixed m) (RefusedRepair b) v w e = never-zero (b .reason) (sym (ap (λ (x : AyRepaired). x .number) e))
+repaired-tells (RefusedRepair a) (Fixed n) v w e = never-zero (a .reason) (ap (λ (x : AyRepaired). x .number) e)
+repaired-tells (RefusedRepair a) (RefusedRepair b) v w e =
+    ap RefusedRepair (bare-known a b v w (ap (λ (x : AyRepaired). x .number) e) (ap (λ (x : AyRepaired). x .place) e))
 
-pub field-tells : (a b : Unpacked) → fieldFrom a ≡ fieldFrom b → a ≡ b
+pub field-tells : (a b : Unpacked) → Without 7 (refusalInField a) → Without 7 (refusalInField b) → fieldFrom a ≡ fieldFrom b → a ≡ b
 unfolding fieldFrom
-field-tells (HeadOf h) (HeadOf k) e = ap (λ (x : AyField). HeadOf (record { yc = x .yc; line = x .line; offset = x .offset })) e
-field-tells (HeadOf h) (RefusedField b) e = never-zero (b .reason) (sym (ap (λ (x : AyField). x .number) e))
-field-tells (RefusedField a) (HeadOf k) e = never-zero (a .reason) (ap (λ (x : AyField). x .number) e)
-field-tells (RefusedField a) (RefusedField b) e =
-    ap RefusedField (refusal-known a b (ap (λ (x : AyField). x .number) e) (ap (λ (x : AyField). x .place) e))
+field-tells (HeadOf h) (HeadOf k) v w e = ap (λ (x : AyField). HeadOf (record { yc = x .yc; line = x .line; offset = x .offset })) e
+field-tells (HeadOf h) (RefusedField b) v w e = never-zero (b .reason) (sym (ap (λ (x : AyField). x .number) e))
+field-tells (RefusedField a) (HeadOf k) v w e = never-zero (a .reason) (ap (λ (x : AyField). x .number) e)
+field-tells (RefusedField a) (RefusedField b) v w e =
+    ap RefusedField (bare-known a b v w (ap (λ (x : AyField). x .number) e) (ap (λ (x : AyField). x .place) e))
 
 -- a check is known by the refusal in it
 checked-back : (c : Checked) → checkedOf (refusalIn c) ≡ c
 checked-back Passed = refl
 checked-back (RefusedCheck why) = refl
 
-pub turn-tells : (a b : Turn) → turnFrom a ≡ turnFrom b → a ≡ b
+pub turn-tells : (a b : Turn) → Without 7 (refusalIn (a .checked)) → Without 7 (refusalIn (b .checked)) → turnFrom a ≡ turnFrom b → a ≡ b
 unfolding turnFrom
-turn-tells a b e =
+turn-tells a b v w e =
     together (a .desk) (b .desk) (a .checked) (b .checked) (ap (λ (x : AyTurn). x .desk) e)
-    (sym (checked-back _) ∙ ap checkedOf (known _ _ (ap (λ (x : AyTurn). x .number) e) (ap (λ (x : AyTurn). x .place) e)) ∙ checked-back _)
+    (sym (checked-back _) ∙ ap checkedOf (known _ _ v w (ap (λ (x : AyTurn). x .number) e) (ap (λ (x : AyTurn). x .place) e)) ∙ checked-back _)
   where
     together : (d f : Desk) (c k : Checked) → d ≡ f → c ≡ k → _≡_ {A = Turn} (record { desk = d; checked = c }) (record { desk = f; checked = k })
     together d f c k p q = rw (p, q)
@@ -121,7 +165,7 @@ heard-tells f g (Arrived a) (Arrived b) e = ap Arrived (sym (arrival-back f a) �
 heard-tells f g (Arrived a) (RefusedPacket b) e = never-zero (b .reason) (sym (ap (λ (x : AyFollowed). x .number) e))
 heard-tells f g (RefusedPacket a) (Arrived b) e = never-zero (a .reason) (ap (λ (x : AyFollowed). x .number) e)
 heard-tells f g (RefusedPacket a) (RefusedPacket b) e =
-    ap RefusedPacket (refusal-known a b (ap (λ (x : AyFollowed). x .number) e) (ap (λ (x : AyFollowed). x .place) e))
+    ap RefusedPacket (refusal-known a b (ap (λ (x : AyFollowed). x .number) e) (ap (λ (x : AyFollowed). x .place) e) (ap (λ (x : AyFollowed). x .bits) e))
 
 -- the follower in the struct is the one handed back
 follower-back : (f : Follower) (h : Heard) → heardFrom f h .follower ≡ f

@@ -11,7 +11,7 @@ returns c = rw (c .kind-number .ensures, c .before .before .heard .given .1)
 
 returns-2 : tie.Need-returns-2
 unfolding heardFrom followedFrom
-returns-2 c = rw (c .refused .ensures, c .before .before .heard2 .given .1)
+returns-2 c = rw (c .refused-with .ensures, c .before .before .heard2 .given .1)
 
 pub followed-spec : {M : Type 1} → statement M
 followed-spec = tie.close (tie.spec (λ c. search needs) (λ c κs. search needs) (λ c. search needs) (λ c κs. search needs) returns returns-2)

@@ -11,7 +11,7 @@ returns c = rw (c .before .reading .given .1)
 
 returns-2 : tie.Need-returns-2
 unfolding packetFrom
-returns-2 c = rw (c .refused .ensures, c .before .before .reading2 .given .1)
+returns-2 c = rw (c .refused-with .ensures, c .before .before .reading2 .given .1)
 
 pub packet-spec : {M : Type 1} → statement M
 packet-spec = tie.close (tie.spec (λ c. search needs) (λ c. search needs) (λ c κs. search needs) returns returns-2)

@@ -5,7 +5,7 @@ use Rattle.answers.proofs.refused.Statement.{statement}
 use Rattle.answers.proofs.refused.Tie as tie
 
 returns : tie.Need-returns
-returns c = rw (c .number .ensures)
+returns c = rw (c .refused-with .ensures)
 
 pub refused-spec : {M : Type 1} → statement M
 refused-spec = tie.close (tie.spec (λ c κs. search needs) returns)

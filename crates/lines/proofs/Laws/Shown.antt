@@ -1,12 +1,14 @@
 -- The lines, written part by part.
 -- Assumes nothing.
 use mathlib.Core.Path.{_≡_, refl, sym, ap, _∙_}
-use mathlib.Core.List.{List, [], _∷_}
+use mathlib.Core.List.{List, [], _∷_, _++_}
 use mathlib.Core.Option.{Option, none, some}
 use Prim.Native.Nat.{ℕ, suc, _+_, _-_, _≤_, _<_}
 use native.Mathlib.Numerals.{add-one}
 use native.Mathlib.Omega.{arith}
-use Rattle.refusal.specs.Number.{numberOf}
+use Rattle.refusal.specs.Number.{numberOf, refusalAt}
+use Rattle.refusal.specs.declared.Wrong.{Wrong}
+use Rattle.refusal.specs.declared.Reason.the-variants.{Parity}
 use Rattle.refusal.specs.declared.Refusal.{Refusal}
 use Rattle.record.specs.Stored.{itemLent}
 use Rattle.reading.specs.declared.Packet.{Packet}
@@ -36,6 +38,12 @@ pub refused-parts : (p0 p1 p2 p3 p4 p5 : Page) (why : Refusal) (n : ℕ) → n �
     → p4 ≡ written p3 (decimal (why .place)) → p5 ≡ written p4 (newline ∷ []) → p5 ≡ written p0 (refusedLine why)
 unfolding refusedLine
 refused-parts p0 p1 p2 p3 p4 p5 why n en e1 e2 e3 e4 e5 = rw (e5, e4, e3, e2, e1, en) (simp written-append)
+
+-- 7 is printed with its place alone, whatever is wrong with the word
+pub seven-line : (wrong : Wrong) (place : ℕ)
+    → refusedLine (refusalAt (Parity wrong) place) ≡ refusedWord ++ decimal 7 ++ (space ∷ []) ++ decimal place ++ (newline ∷ [])
+unfolding refusedLine numberOf
+seven-line wrong place = refl
 
 -- an item, in three
 pub item-parts : (p0 p1 p2 p3 : Page) (rec part : List ℕ) (number : ℕ) → p1 ≡ written p0 (decimal number) → part ≡ itemLent number rec → p2 ≡ written p1 (hexBytes part)

@@ -8,16 +8,24 @@ use Rattle.gf256.proofs.Laws.Tables.{powers-unique, logs-unique}
 use Rattle.gf256.proofs.Laws.Lent.{wheel-unique}
 use Rattle.refusal.proofs.number.Kinds as number-types
 use Rattle.refusal.proofs.number.Reads as number-contract
+use Rattle.refusal.proofs.bits.Kinds as bits-types
+use Rattle.refusal.proofs.bits.Reads as bits-contract
+use Rattle.refusal.proofs.bits_in.Kinds as bits-in-types
+use Rattle.refusal.proofs.bits_in.Reads as bits-in-contract
 use Rattle.refusal.proofs.plain.Kinds as plain-types
 use Rattle.refusal.proofs.plain.Reads as plain-contract
 use Rattle.refusal.proofs.at.Kinds as at-types
 use Rattle.refusal.proofs.at.Reads as at-contract
 use Rattle.refusal.proofs.then.Kinds as then-types
 use Rattle.refusal.proofs.then.Reads as then-contract
+use Rattle.refusal.proofs.next.Kinds as next-types
+use Rattle.refusal.proofs.next.Reads as next-contract
 use Rattle.anc.proofs.word_of.Kinds as word-of-types
 use Rattle.anc.proofs.word_of.Reads as word-of-contract
-use Rattle.anc.proofs.is_sound.Kinds as is-sound-types
-use Rattle.anc.proofs.is_sound.Reads as is-sound-contract
+use Rattle.soundness.proofs.check_word.Kinds as check-word-types
+use Rattle.soundness.proofs.check_word.Reads as check-word-contract
+use Rattle.soundness.proofs.check_words.Kinds as check-words-types
+use Rattle.soundness.proofs.check_words.Reads as check-words-contract
 use Rattle.anc.proofs.checksum.Kinds as checksum-types
 use Rattle.anc.proofs.checksum.Reads as checksum-contract
 use Rattle.anc.proofs.has_flag.Kinds as has-flag-types
@@ -140,6 +148,8 @@ use Rattle.answers.proofs.checked.Kinds as answer-checked-types
 use Rattle.answers.proofs.checked.Reads as answer-checked-contract
 use Rattle.answers.proofs.written.Kinds as answer-written-types
 use Rattle.answers.proofs.written.Reads as answer-written-contract
+use Rattle.answers.proofs.word.Kinds as answer-word-types
+use Rattle.answers.proofs.word.Reads as answer-word-contract
 use Rattle.answers.proofs.packet.Kinds as answer-packet-types
 use Rattle.answers.proofs.packet.Reads as answer-packet-contract
 use Rattle.answers.proofs.repaired.Kinds as answer-repaired-types
@@ -152,8 +162,8 @@ use Rattle.answers.proofs.followed.Kinds as answer-followed-types
 use Rattle.answers.proofs.followed.Reads as answer-followed-contract
 use Rattle.capi.proofs.ay_word_of.Kinds as ay-word-of-types
 use Rattle.capi.proofs.ay_word_of.Reads as ay-word-of-contract
-use Rattle.capi.proofs.ay_is_sound.Kinds as ay-is-sound-types
-use Rattle.capi.proofs.ay_is_sound.Reads as ay-is-sound-contract
+use Rattle.capi.proofs.ay_check_word.Kinds as ay-check-word-types
+use Rattle.capi.proofs.ay_check_word.Reads as ay-check-word-contract
 use Rattle.capi.proofs.ay_checksum.Kinds as ay-checksum-types
 use Rattle.capi.proofs.ay_checksum.Reads as ay-checksum-contract
 use Rattle.capi.proofs.ay_write_packet.Kinds as ay-write-packet-types
@@ -188,6 +198,12 @@ use Rattle.capi.proofs.ay_follower_follow.Reads as ay-follower-follow-contract
 pub number : OneAnswer 0 number-types.ps number-types.r number-contract.Learnt
 number κs i a b s t p q = p ∙ sym q
 
+pub bits : OneAnswer 0 bits-types.ps bits-types.r bits-contract.Learnt
+bits κs i a b s t p q = p ∙ sym q
+
+pub bits-in : OneAnswer 0 bits-in-types.ps bits-in-types.r bits-in-contract.Learnt
+bits-in κs i a b s t p q = p ∙ sym q
+
 pub plain : OneAnswer 0 plain-types.ps plain-types.r plain-contract.Learnt
 plain κs i a b s t p q = p ∙ sym q
 
@@ -197,13 +213,13 @@ at κs i a b s t p q = p ∙ sym q
 pub then : OneAnswer 0 then-types.ps then-types.r then-contract.Learnt
 then κs i a b s t p q = p ∙ sym q
 
+pub next : OneAnswer 0 next-types.ps next-types.r next-contract.Learnt
+next κs i a b s t p q = p ∙ sym q
+
 -- ---- anc
 
 pub word-of : OneAnswer 0 word-of-types.ps word-of-types.r word-of-contract.Learnt
 word-of κs i a b s t p q = p ∙ sym q
-
-pub is-sound : OneAnswer 0 is-sound-types.ps is-sound-types.r is-sound-contract.Learnt
-is-sound κs i a b s t p q = p ∙ sym q
 
 pub checksum : OneAnswer 1 checksum-types.ps checksum-types.r checksum-contract.Learnt
 checksum κs i a b s t p q = p ∙ sym q
@@ -219,6 +235,14 @@ low-bytes κs i a b s t p q = (p .0 ∙ sym (q .0), p .1 ∙ sym (q .1))
 
 pub sound-words : OneOutcome 2 sound-words-types.ps sound-words-types.r (λ κs s. now (s .1 .0)) sound-words-contract.Learnt
 sound-words κs i a b s t p q = (p .0 ∙ sym (q .0), p .1 ∙ sym (q .1))
+
+-- ---- soundness
+
+pub check-word : OneAnswer 0 check-word-types.ps check-word-types.r check-word-contract.Learnt
+check-word κs i a b s t p q = p ∙ sym q
+
+pub check-words : OneAnswer 1 check-words-types.ps check-words-types.r check-words-contract.Learnt
+check-words κs i a b s t p q = p ∙ sym q
 
 -- ---- gf256
 
@@ -418,6 +442,9 @@ answer-checked κs i a b s t p q = p ∙ sym q
 pub answer-written : OneAnswer 0 answer-written-types.ps answer-written-types.r answer-written-contract.Learnt
 answer-written κs i a b s t p q = p ∙ sym q
 
+pub answer-word : OneAnswer 0 answer-word-types.ps answer-word-types.r answer-word-contract.Learnt
+answer-word κs i a b s t p q = p ∙ sym q
+
 pub answer-packet : OneAnswer 0 answer-packet-types.ps answer-packet-types.r answer-packet-contract.Learnt
 answer-packet κs i a b s t p q = p ∙ sym q
 
@@ -438,8 +465,8 @@ answer-followed κs i a b s t p q = p ∙ sym q
 pub ay-word-of : OneAnswer 0 ay-word-of-types.ps ay-word-of-types.r ay-word-of-contract.Learnt
 ay-word-of κs i a b s t p q = p ∙ sym q
 
-pub ay-is-sound : OneAnswer 0 ay-is-sound-types.ps ay-is-sound-types.r ay-is-sound-contract.Learnt
-ay-is-sound κs i a b s t p q = p ∙ sym q
+pub ay-check-word : OneAnswer 0 ay-check-word-types.ps ay-check-word-types.r ay-check-word-contract.Learnt
+ay-check-word κs i a b s t p q = p ∙ sym q
 
 pub ay-checksum : OneAnswer 1 ay-checksum-types.ps ay-checksum-types.r ay-checksum-contract.Learnt
 ay-checksum κs i a b s t p q = p ∙ sym q

@@ -34,7 +34,7 @@ use Rattle.reading.specs.declared.Reading.the-variants.{Accepted}
 use Rattle.reading.specs.Reading.{correctionOf, indexOf, protectedOf, readFixed, headRefusal, readRefusal, readIntoRefusal, readRecord}
 use Rattle.reading.specs.Answer.{refusalIn, packetOf, readLeaves}
 use Rattle.reading.proofs.Laws.Answer.{refusal-said, into-refusal-said, accepted-is, accepted-room, read-accepts, into-accepts}
-use Rattle.reading.proofs.Laws.Beyond.{read-beyond, into-beyond, read-off, into-off}
+use Rattle.reading.proofs.Laws.Beyond.{not-nine, read-beyond, into-beyond, read-off, into-off}
 use Rattle.reading.proofs.Laws.Carried.{Reads}
 use Rattle.reading.proofs.Laws.RoundTrip.{written-reads, written-packet}
 use Rattle.reading.proofs.Laws.Whole.{read-clean, index-small, packetAgain, write-read, write-read-same, same-write-read}
@@ -50,13 +50,13 @@ use Rattle.promises.proofs.Laws.PacketCalls.{writes-is, writes-leaves, 
 
 -- ---- the refusal that each call tells
 
-read-tells : (words : List ℕ) (a : Reading) → ReadsPacket words a → readRefusal words ≡ refusalIn a
+pub read-tells : (words : List ℕ) (a : Reading) → ReadsPacket words a → readRefusal words ≡ refusalIn a
 read-tells words a R = sym (ap refusalIn (reads-packet-is words a R) ∙ refusal-said words)
 
-into-tells : (words old : List ℕ) (a : Reading) (left : List ℕ) → ReadsInto words old a left → readIntoRefusal words (length old) ≡ refusalIn a
+pub into-tells : (words old : List ℕ) (a : Reading) (left : List ℕ) → ReadsInto words old a left → readIntoRefusal words (length old) ≡ refusalIn a
 into-tells words old a left R = sym (ap refusalIn (reads-into-is words old a left R) ∙ into-refusal-said words (length old))
 
-follow-tells : (f : Follower) (words : List ℕ) (a : Followed) → Follows f words a → readRefusal words ≡ refusalInHeard (a .heard)
+pub follow-tells : (f : Follower) (words : List ℕ) (a : Followed) → Follows f words a → readRefusal words ≡ refusalInHeard (a .heard)
 follow-tells f words a F = sym (ap (λ (x : Followed). refusalInHeard (x .heard)) (follows-is f words a F) ∙ refusal-heard f words)
 
 repair-tells : (words old : List ℕ) (a : Repaired) (left : List ℕ) → Repairs words old a left → repairRefusal words (length old) ≡ refusalInRepair a
@@ -87,13 +87,13 @@ repair-alone-beyond words n w old a left R = told _ _ words (repair-tells words 
 -- with correction off, never
 module _ (words : List ℕ) (off : correctionOf words ≡ false) where
   pub read-packet-off : (a : Reading) → ReadsPacket words a → refusalIn a ≡ some (refusalPlain BeyondRepair) → ⊥
-  read-packet-off a R e = read-off words off (read-tells words a R ∙ e)
+  read-packet-off a R e = not-nine (read-off words off) (read-tells words a R ∙ e)
 
   pub read-into-off : (old : List ℕ) (a : Reading) (left : List ℕ) → ReadsInto words old a left → refusalIn a ≡ some (refusalPlain BeyondRepair) → ⊥
-  read-into-off old a left R e = into-off words off (length old) (into-tells words old a left R ∙ e)
+  read-into-off old a left R e = not-nine (into-off words off (length old)) (into-tells words old a left R ∙ e)
 
   pub follow-off : (f : Follower) (a : Followed) → Follows f words a → refusalInHeard (a .heard) ≡ some (refusalPlain BeyondRepair) → ⊥
-  follow-off f a F e = read-off words off (follow-tells f words a F ∙ e)
+  follow-off f a F e = not-nine (read-off words off) (follow-tells f words a F ∙ e)
 
 -- ---- written and read again, a record is the same
 

@@ -1,13 +1,19 @@
--- Demand 1: the place of a refusal is the item's first byte for 11 to 14, else 0. Of each public call that can refuse, under its name, with its
+-- Demand 1: the place of a refusal is the item's first byte for 11 to 14, a data word's number for 7, else 0. Of each public call that can refuse, under its name, with its
 -- crate's where two share one; and of the calls for C. `Learnt` is the contract as its caller may use it.
 -- Assumes nothing.
-use mathlib.Core.Path.{refl}
-use mathlib.Core.Bool.{false≢true}
+use mathlib.Core.Path.{_≡_, refl, ap, _∙_}
+use mathlib.Core.Bool.{not, false≢true}
 use mathlib.Core.Option.{Option, none, some}
-use Prim.Native.Nat.{ℕ}
+use Prim.Native.Nat.{ℕ, zero, suc, _≤_}
+use native.Mathlib.Omega.{arith}
+use borrow.Author.Tests.{eqb-true, eqb-false}
 use Rattle.refusal.specs.Checked.{refusalIn}
+use Rattle.refusal.specs.Number.{numberOf, bitsIn}
+use Rattle.refusal.specs.declared.Reason.{Reason}
 use Rattle.refusal.specs.declared.Refusal.{Refusal}
+use Rattle.refusal.proofs.Laws.Number.{bits-seven, bits-le}
 use Rattle.refusal.proofs.Laws.Chain.{refusal-in}
+use Rattle.soundness.specs.Check.{refusalIn as refusalInWord}
 use Rattle.rs.specs.Codeword.{dividedOf}
 use Rattle.view.specs.Read.{recordReadOf}
 use Rattle.repair.specs.Repair.{refusalIn as refusalInRepair}
@@ -23,10 +29,19 @@ use Rattle.follower.proofs.Laws.Follow.{refusal-heard}
 use Rattle.b40.specs.Unpacking.{refusalIn as refusalInField}
 use Rattle.b40.proofs.Laws.Packing.{refusal-said as pack-said}
 use Rattle.b40.proofs.Laws.Unpacking.{refusal-said as unpack-said}
-use Rattle.answers.specs.Answers.{answerBy}
-use Rattle.answers.proofs.Laws.Done.{Says, packet-says, repaired-says, field-says, turn-says, followed-says}
-use Rattle.promises.specs.Places.{RightPlace, RightIn, PlacesRight, AnswersRight}
-use Rattle.promises.proofs.Laws.Placed.{fill-right, block-right, decode-right, place-right, item-right, record-right, written-right, put-right, store-right, repair-right, count-right, write-right, read-right, into-right, step-right, back-right, undo-right, send-right, pack-right, unpack-right}
+use Rattle.reading.specs.declared.Reading.{Reading}
+use Rattle.reading.specs.declared.Reading.the-variants.{Accepted, Refused}
+use Rattle.follower.specs.declared.Follower.{Follower}
+use Rattle.follower.specs.declared.Heard.{Heard}
+use Rattle.follower.specs.declared.Heard.the-variants.{Accepted as Arrived, Refused as RefusedPacket}
+use Rattle.answers.specs.Answers.{answerBy, packetFrom, heardFrom, followedFrom}
+use Rattle.answers.proofs.Laws.Done.{Says, word-says, packet-says, repaired-says, field-says, turn-says, followed-says}
+use Rattle.promises.specs.Places.{RightPlace, RightIn, BitsBeside, PlacesRight, AnswersRight, BitsRight}
+use Rattle.promises.proofs.Laws.Placed.{check-right, words-right, fill-right, block-right, decode-right, place-right, item-right, record-right, written-right, put-right, store-right, repair-right, count-right, write-right, read-right, into-right, step-right, back-right, undo-right, send-right, pack-right, unpack-right}
+use Rattle.soundness.proofs.check_word.Kinds as check-word-types
+use Rattle.soundness.proofs.check_word.Reads as check-word-contract
+use Rattle.soundness.proofs.check_words.Kinds as check-words-types
+use Rattle.soundness.proofs.check_words.Reads as check-words-contract
 use Rattle.anc.proofs.low_bytes.Kinds as low-bytes-types
 use Rattle.anc.proofs.low_bytes.Reads as low-bytes-contract
 use Rattle.anc.proofs.sound_words.Kinds as sound-words-types
@@ -75,6 +90,8 @@ use Rattle.b40.proofs.pack.Kinds as pack-types
 use Rattle.b40.proofs.pack.Reads as pack-contract
 use Rattle.b40.proofs.unpack.Kinds as unpack-types
 use Rattle.b40.proofs.unpack.Reads as unpack-contract
+use Rattle.capi.proofs.ay_check_word.Kinds as ay-check-word-types
+use Rattle.capi.proofs.ay_check_word.Reads as ay-check-word-contract
 use Rattle.capi.proofs.ay_write_packet.Kinds as ay-write-packet-types
 use Rattle.capi.proofs.ay_write_packet.Reads as ay-write-packet-contract
 use Rattle.capi.proofs.ay_read_packet.Kinds as ay-read-packet-types
@@ -100,142 +117,186 @@ use Rattle.capi.proofs.ay_follower_follow.Reads as ay-follower-follow-contract
 
 -- ---- anc
 
-pub low-bytes : PlacesRight 2 low-bytes-types.ps low-bytes-types.r (λ κs. refusalIn) low-bytes-contract.Learnt
+pub low-bytes : PlacesRight 2 low-bytes-types.ps low-bytes-types.r 0 (λ κs. refusalIn) low-bytes-contract.Learnt
 low-bytes κs i a s p = rw (p .0, refusal-in) (fill-right _ _)
 
-pub sound-words : PlacesRight 2 sound-words-types.ps sound-words-types.r (λ κs. refusalIn) sound-words-contract.Learnt
+pub sound-words : PlacesRight 2 sound-words-types.ps sound-words-types.r 0 (λ κs. refusalIn) sound-words-contract.Learnt
 sound-words κs i a s p = rw (p .0, refusal-in) (fill-right _ _)
+
+-- ---- soundness
+
+pub check-word : PlacesRight 0 check-word-types.ps check-word-types.r 0 (λ κs. refusalInWord) check-word-contract.Learnt
+check-word κs i a s p = rw p (check-right _)
+
+-- of up to 255 words
+pub check-words : PlacesRight 1 check-words-types.ps check-words-types.r 255 (λ κs. refusalIn) check-words-contract.Learnt
+check-words κs i a s p = rw (p, refusal-in) (words-right _)
 
 -- ---- rs and search
 
-pub remainder : PlacesRight 1 remainder-types.ps remainder-types.r (λ κs a. refusalIn (a .checked)) remainder-contract.Learnt
+pub remainder : PlacesRight 1 remainder-types.ps remainder-types.r 0 (λ κs a. refusalIn (a .checked)) remainder-contract.Learnt
 unfolding dividedOf
 remainder κs i a s p = rw (p, refusal-in) (block-right _)
 
-pub search-repair : PlacesRight 1 search-repair-types.ps search-repair-types.r (λ κs. refusalIn) search-repair-contract.Learnt
+pub search-repair : PlacesRight 1 search-repair-types.ps search-repair-types.r 0 (λ κs. refusalIn) search-repair-contract.Learnt
 search-repair κs i a s p = rw (p .0, refusal-in) (decode-right _)
 
 -- ---- items
 
-pub item-place : PlacesRight 0 item-place-types.ps item-place-types.r (λ κs a. refusalIn (a .checked)) item-place-contract.Learnt
+pub item-place : PlacesRight 0 item-place-types.ps item-place-types.r 0 (λ κs a. refusalIn (a .checked)) item-place-contract.Learnt
 item-place κs i a s p = rw p (place-right _)
 
-pub item-refusal : PlacesRight 1 item-refusal-types.ps item-refusal-types.r (λ κs. refusalIn) item-refusal-contract.Learnt
+pub item-refusal : PlacesRight 1 item-refusal-types.ps item-refusal-types.r 0 (λ κs. refusalIn) item-refusal-contract.Learnt
 item-refusal κs i a s p = rw (p, refusal-in) (item-right _ _)
 
 -- ---- record and view
 
-pub record-refusal : PlacesRight 1 record-refusal-types.ps record-refusal-types.r (λ κs. refusalIn) record-refusal-contract.Learnt
+pub record-refusal : PlacesRight 1 record-refusal-types.ps record-refusal-types.r 0 (λ κs. refusalIn) record-refusal-contract.Learnt
 record-refusal κs i a s p = rw (p, refusal-in) (record-right _)
 
-pub write-record : PlacesRight 2 write-record-types.ps write-record-types.r (λ κs. refusalIn) write-record-contract.Learnt
+pub write-record : PlacesRight 2 write-record-types.ps write-record-types.r 0 (λ κs. refusalIn) write-record-contract.Learnt
 write-record κs i a s p = rw (p .0, refusal-in) (written-right _ _)
 
-pub put-item : PlacesRight 2 put-item-types.ps put-item-types.r (λ κs. refusalIn) put-item-contract.Learnt
+pub put-item : PlacesRight 2 put-item-types.ps put-item-types.r 0 (λ κs. refusalIn) put-item-contract.Learnt
 put-item κs i a s p = rw (p .0, refusal-in) (put-right _ _ _)
 
-pub store-item : PlacesRight 2 store-item-types.ps store-item-types.r (λ κs. refusalIn) store-item-contract.Learnt
+pub store-item : PlacesRight 2 store-item-types.ps store-item-types.r 0 (λ κs. refusalIn) store-item-contract.Learnt
 store-item κs i a s p = rw (p .0, refusal-in) (store-right _ _ _)
 
-pub read-record : PlacesRight 1 read-record-types.ps read-record-types.r (λ κs a. refusalIn (a .checked)) read-record-contract.Learnt
+pub read-record : PlacesRight 1 read-record-types.ps read-record-types.r 0 (λ κs a. refusalIn (a .checked)) read-record-contract.Learnt
 unfolding recordReadOf
 read-record κs i a s p = rw (p, refusal-in) (record-right _)
 
 -- ---- repair, writing and reading
 
-pub packet-repair : PlacesRight 2 packet-repair-types.ps packet-repair-types.r (λ κs. refusalInRepair) packet-repair-contract.Learnt
+pub packet-repair : PlacesRight 2 packet-repair-types.ps packet-repair-types.r 0 (λ κs. refusalInRepair) packet-repair-contract.Learnt
 packet-repair κs i a s p = rw (p .0, repair-said) (repair-right _ _)
 
-pub count-fixed : PlacesRight 2 count-fixed-types.ps count-fixed-types.r (λ κs. refusalInRepair) count-fixed-contract.Learnt
+pub count-fixed : PlacesRight 2 count-fixed-types.ps count-fixed-types.r 0 (λ κs. refusalInRepair) count-fixed-contract.Learnt
 count-fixed κs i a s p = rw (p, count-said) (count-right _ _)
 
-pub write-packet : PlacesRight 2 write-packet-types.ps write-packet-types.r (λ κs. refusalInWriting) write-packet-contract.Learnt
+pub write-packet : PlacesRight 2 write-packet-types.ps write-packet-types.r 0 (λ κs. refusalInWriting) write-packet-contract.Learnt
 write-packet κs i a s p = rw (p .0, write-said) (write-right _ _ _)
 
-pub read-packet : PlacesRight 1 read-packet-types.ps read-packet-types.r (λ κs. refusalInReading) read-packet-contract.Learnt
+pub read-packet : PlacesRight 1 read-packet-types.ps read-packet-types.r 248 (λ κs. refusalInReading) read-packet-contract.Learnt
 read-packet κs i a s p = rw (p, read-said) (read-right _)
 
-pub read-packet-into : PlacesRight 2 read-packet-into-types.ps read-packet-into-types.r (λ κs. refusalInReading) read-packet-into-contract.Learnt
+pub read-packet-into : PlacesRight 2 read-packet-into-types.ps read-packet-into-types.r 248 (λ κs. refusalInReading) read-packet-into-contract.Learnt
 read-packet-into κs i a s p = rw (p .0, into-said) (into-right _ _)
 
 -- ---- steps and desk
 
-pub history-step : PlacesRight 1 history-step-types.ps history-step-types.r (λ κs a. refusalIn (a .checked)) history-step-contract.Learnt
+pub history-step : PlacesRight 1 history-step-types.ps history-step-types.r 0 (λ κs a. refusalIn (a .checked)) history-step-contract.Learnt
 unfolding keptOf
 history-step κs i a s p = rw (p, refusal-in) (step-right _ _)
 
-pub put-back : PlacesRight 1 put-back-types.ps put-back-types.r (λ κs. refusalIn) put-back-contract.Learnt
+pub put-back : PlacesRight 1 put-back-types.ps put-back-types.r 0 (λ κs. refusalIn) put-back-contract.Learnt
 put-back κs i a s p = rw (p .0, refusal-in) (back-right _ _)
 
-pub desk-edit : PlacesRight 1 desk-edit-types.ps desk-edit-types.r (λ κs a. refusalIn (a .checked)) desk-edit-contract.Learnt
+pub desk-edit : PlacesRight 1 desk-edit-types.ps desk-edit-types.r 0 (λ κs a. refusalIn (a .checked)) desk-edit-contract.Learnt
 unfolding edited
 desk-edit κs i a s p = rw (p, refusal-in) (item-right _ _)
 
-pub desk-undo : PlacesRight 0 desk-undo-types.ps desk-undo-types.r (λ κs a. refusalIn (a .checked)) desk-undo-contract.Learnt
+pub desk-undo : PlacesRight 0 desk-undo-types.ps desk-undo-types.r 0 (λ κs a. refusalIn (a .checked)) desk-undo-contract.Learnt
 unfolding undone
 desk-undo κs i a s p = rw (p, refusal-in) (undo-right _)
 
-pub desk-send : PlacesRight 1 desk-send-types.ps desk-send-types.r (λ κs a. refusalIn (a .checked)) desk-send-contract.Learnt
+pub desk-send : PlacesRight 1 desk-send-types.ps desk-send-types.r 0 (λ κs a. refusalIn (a .checked)) desk-send-contract.Learnt
 unfolding sent
 desk-send κs i a s p = rw (p .0, refusal-in) (send-right _ _)
 
 -- ---- follower
 
-pub follower-follow : PlacesRight 1 follower-follow-types.ps follower-follow-types.r (λ κs a. refusalInHeard (a .heard)) follower-follow-contract.Learnt
+pub follower-follow : PlacesRight 1 follower-follow-types.ps follower-follow-types.r 248 (λ κs a. refusalInHeard (a .heard)) follower-follow-contract.Learnt
 follower-follow κs i a s p = rw (p, refusal-heard) (read-right _)
 
 -- ---- b40
 
-pub pack : PlacesRight 2 pack-types.ps pack-types.r (λ κs. refusalInWriting) pack-contract.Learnt
+pub pack : PlacesRight 2 pack-types.ps pack-types.r 0 (λ κs. refusalInWriting) pack-contract.Learnt
 pack κs i a s p = rw (p .0, pack-said) (pack-right _ _ _ _)
 
-pub unpack : PlacesRight 2 unpack-types.ps unpack-types.r (λ κs. refusalInField) unpack-contract.Learnt
+pub unpack : PlacesRight 2 unpack-types.ps unpack-types.r 0 (λ κs. refusalInField) unpack-contract.Learnt
 unpack κs i a s p = rw (p .0, unpack-said) (unpack-right _ _)
 
 -- ---- the calls for C
 
 -- number 0 with place 0 where nothing is refused, else those of the refusal
-answer-right : (o : Option Refusal) → RightIn o → RightPlace (answerBy o .number) (answerBy o .place)
+answer-right : {last : ℕ} (o : Option Refusal) → RightIn last o → RightPlace last (answerBy o .number) (answerBy o .place)
 unfolding answerBy
-answer-right none q = record { of-item = λ t. absurd (false≢true t); else-zero = λ f. refl }
+answer-right none q = record { of-item = λ t. absurd (false≢true t); of-word = λ t. absurd (false≢true t); else-zero = λ f. refl }
 answer-right (some why) q = q .right why refl
 
 -- so are those of a struct that carries that answer
-says-right : {number place : ℕ} {o : Option Refusal} → Says number place o → RightIn o → RightPlace number place
+says-right : {last number place : ℕ} {o : Option Refusal} → Says number place o → RightIn last o → RightPlace last number place
 says-right {o = o} s q = rw (s .number-is, s .place-is) (answer-right o q)
 
-pub ay-write-packet : AnswersRight 2 ay-write-packet-types.ps ay-write-packet-types.r (λ κs a. a .number) (λ κs a. a .place) ay-write-packet-contract.Learnt
+pub ay-check-word : AnswersRight 0 ay-check-word-types.ps ay-check-word-types.r 0 (λ κs a. a .number) (λ κs a. a .place) ay-check-word-contract.Learnt
+ay-check-word κs i a s p = rw p (says-right (word-says _) (check-right _))
+
+pub ay-write-packet : AnswersRight 2 ay-write-packet-types.ps ay-write-packet-types.r 0 (λ κs a. a .number) (λ κs a. a .place) ay-write-packet-contract.Learnt
 ay-write-packet κs i a s p = rw (p .0) (answer-right _ (write-right _ _ _))
 
-pub ay-read-packet : AnswersRight 1 ay-read-packet-types.ps ay-read-packet-types.r (λ κs a. a .number) (λ κs a. a .place) ay-read-packet-contract.Learnt
+pub ay-read-packet : AnswersRight 1 ay-read-packet-types.ps ay-read-packet-types.r 248 (λ κs a. a .number) (λ κs a. a .place) ay-read-packet-contract.Learnt
 ay-read-packet κs i a s p = rw p (says-right (packet-says _) (rw read-said (read-right _)))
 
-pub ay-read-packet-into : AnswersRight 2 ay-read-packet-into-types.ps ay-read-packet-into-types.r (λ κs a. a .number) (λ κs a. a .place) ay-read-packet-into-contract.Learnt
+pub ay-read-packet-into : AnswersRight 2 ay-read-packet-into-types.ps ay-read-packet-into-types.r 248 (λ κs a. a .number) (λ κs a. a .place) ay-read-packet-into-contract.Learnt
 ay-read-packet-into κs i a s p = rw (p .0) (says-right (packet-says _) (rw into-said (into-right _ _)))
 
-pub ay-repair : AnswersRight 2 ay-repair-types.ps ay-repair-types.r (λ κs a. a .number) (λ κs a. a .place) ay-repair-contract.Learnt
+pub ay-repair : AnswersRight 2 ay-repair-types.ps ay-repair-types.r 0 (λ κs a. a .number) (λ κs a. a .place) ay-repair-contract.Learnt
 ay-repair κs i a s p = rw (p .0) (says-right (repaired-says _) (rw repair-said (repair-right _ _)))
 
-pub ay-record-refusal : AnswersRight 1 ay-record-refusal-types.ps ay-record-refusal-types.r (λ κs a. a .number) (λ κs a. a .place) ay-record-refusal-contract.Learnt
+pub ay-record-refusal : AnswersRight 1 ay-record-refusal-types.ps ay-record-refusal-types.r 0 (λ κs a. a .number) (λ κs a. a .place) ay-record-refusal-contract.Learnt
 ay-record-refusal κs i a s p = rw p (answer-right _ (record-right _))
 
-pub ay-pack : AnswersRight 2 ay-pack-types.ps ay-pack-types.r (λ κs a. a .number) (λ κs a. a .place) ay-pack-contract.Learnt
+pub ay-pack : AnswersRight 2 ay-pack-types.ps ay-pack-types.r 0 (λ κs a. a .number) (λ κs a. a .place) ay-pack-contract.Learnt
 ay-pack κs i a s p = rw (p .0) (answer-right _ (pack-right _ _ _ _))
 
-pub ay-unpack : AnswersRight 2 ay-unpack-types.ps ay-unpack-types.r (λ κs a. a .number) (λ κs a. a .place) ay-unpack-contract.Learnt
+pub ay-unpack : AnswersRight 2 ay-unpack-types.ps ay-unpack-types.r 0 (λ κs a. a .number) (λ κs a. a .place) ay-unpack-contract.Learnt
 ay-unpack κs i a s p = rw (p .0) (says-right (field-says _) (rw unpack-said (unpack-right _ _)))
 
-pub ay-desk-edit : AnswersRight 1 ay-desk-edit-types.ps ay-desk-edit-types.r (λ κs a. a .number) (λ κs a. a .place) ay-desk-edit-contract.Learnt
+pub ay-desk-edit : AnswersRight 1 ay-desk-edit-types.ps ay-desk-edit-types.r 0 (λ κs a. a .number) (λ κs a. a .place) ay-desk-edit-contract.Learnt
 unfolding edited
 ay-desk-edit κs i a s p = rw p (says-right (turn-says _) (rw refusal-in (item-right _ _)))
 
-pub ay-desk-undo : AnswersRight 0 ay-desk-undo-types.ps ay-desk-undo-types.r (λ κs a. a .number) (λ κs a. a .place) ay-desk-undo-contract.Learnt
+pub ay-desk-undo : AnswersRight 0 ay-desk-undo-types.ps ay-desk-undo-types.r 0 (λ κs a. a .number) (λ κs a. a .place) ay-desk-undo-contract.Learnt
 unfolding undone
 ay-desk-undo κs i a s p = rw p (says-right (turn-says _) (rw refusal-in (undo-right _)))
 
-pub ay-desk-send : AnswersRight 1 ay-desk-send-types.ps ay-desk-send-types.r (λ κs a. a .number) (λ κs a. a .place) ay-desk-send-contract.Learnt
+pub ay-desk-send : AnswersRight 1 ay-desk-send-types.ps ay-desk-send-types.r 0 (λ κs a. a .number) (λ κs a. a .place) ay-desk-send-contract.Learnt
 unfolding sent
 ay-desk-send κs i a s p = rw (p .0) (says-right (turn-says _) (rw refusal-in (send-right _ _)))
 
-pub ay-follower-follow : AnswersRight 1 ay-follower-follow-types.ps ay-follower-follow-types.r (λ κs a. a .number) (λ κs a. a .place) ay-follower-follow-contract.Learnt
+pub ay-follower-follow : AnswersRight 1 ay-follower-follow-types.ps ay-follower-follow-types.r 248 (λ κs a. a .number) (λ κs a. a .place) ay-follower-follow-contract.Learnt
 ay-follower-follow κs i a s p = rw p (says-right (followed-says _) (rw refusal-heard (read-right _)))
+
+-- ---- the bits beside 7
+
+carried : (n : ℕ) → (n ≡ 0 → ⊥) → 1 ≤ n
+carried zero h = absurd (h refl)
+carried (suc n) h = omega arith
+
+reason-bits : (why : Reason) → BitsBeside (numberOf why) (bitsIn why)
+reason-bits why = record { of-word = λ t. (carried (bitsIn why) (eqb-false (bitsIn why) 0 (bits-seven why ∙ ap not t)), bits-le why); else-zero = λ f. eqb-true _ 0 (bits-seven why ∙ ap not f) }
+
+no-bits : BitsBeside 0 0
+no-bits = record { of-word = λ t. absurd (false≢true t); else-zero = λ f. refl }
+
+packet-bits : (a : Reading) → BitsBeside (packetFrom a .number) (packetFrom a .bits)
+unfolding packetFrom
+packet-bits (Accepted p) = no-bits
+packet-bits (Refused why) = reason-bits (why .reason)
+
+heard-bits : (f : Follower) (h : Heard) → BitsBeside (heardFrom f h .number) (heardFrom f h .bits)
+unfolding heardFrom
+heard-bits f (Arrived a) = no-bits
+heard-bits f (RefusedPacket why) = reason-bits (why .reason)
+
+pub ay-read-packet-bits : BitsRight 1 ay-read-packet-types.ps ay-read-packet-types.r (λ κs a. a .number) (λ κs a. a .bits) ay-read-packet-contract.Learnt
+ay-read-packet-bits κs i a s p = rw p (packet-bits _)
+
+pub ay-read-packet-into-bits : BitsRight 2 ay-read-packet-into-types.ps ay-read-packet-into-types.r (λ κs a. a .number) (λ κs a. a .bits) ay-read-packet-into-contract.Learnt
+ay-read-packet-into-bits κs i a s p = rw (p .0) (packet-bits _)
+
+pub ay-follower-follow-bits : BitsRight 1 ay-follower-follow-types.ps ay-follower-follow-types.r (λ κs a. a .number) (λ κs a. a .bits) ay-follower-follow-contract.Learnt
+unfolding followedFrom
+ay-follower-follow-bits κs i a s p = rw p (heard-bits _ _)

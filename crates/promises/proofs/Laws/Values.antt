@@ -1,8 +1,22 @@
--- The table of values holds: each row is computed from the definitions.
+-- The table of values holds: each row is computed from the definitions, or, of every sound word, worked out of its bits.
 -- Assumes nothing.
-use mathlib.Core.Path.{refl}
+use mathlib.Core.Path.{_≡_, refl, sym, ap, ap₂, _∙_}
+use mathlib.Core.Bool.{Bool, true, false}
+use Prim.Native.Nat.{ℕ, _+_, _-_, _*_, _/_, _%_, _≤_, _<_}
+use native.Mathlib.Nat.{mod-lt}
+use native.Mathlib.Omega.{arith}
+use borrow.Author.Tests.{eq-eqb, ne-eqb}
+use lib.Dec.{eqb}
+use mathlib.Core.Logic.{⊎-elim}
+use Rattle.basics.proofs.Laws.Test.{lt-or-le}
 use Rattle.gf256.specs.Field.{_⊕_, _⊗_, byBits, double}
-use Rattle.anc.specs.Word.{wordOf, withB9, bit, ones, parityOf as evenParity, total, checksumOf}
+use Rattle.refusal.specs.declared.Wrong.the-variants.{B8, B9, Both}
+use Rattle.anc.specs.Word.{isSound, wordOf, withB9, bit, ones, parityOf as evenParity, total, checksumOf}
+use Rattle.soundness.specs.declared.Soundness.the-variants.{Unsound}
+use Rattle.soundness.specs.Check.{b8Right, b9Right, soundnessBy, soundnessOf}
+use Rattle.anc.proofs.Laws.Bits.{bit-lt, parity-low}
+use Rattle.anc.proofs.Laws.Word.{RightBits, sound-right, word-parts}
+use Rattle.soundness.proofs.Laws.Check.{narrow-answer}
 use Rattle.rs.specs.Polynomial.{_⊞_, scale}
 use Rattle.rs.specs.Codeword.{parityOf, remainder, next, divisorBytes}
 use Rattle.rules.specs.Rules.{soundByte, oneOf, pictureRule, lowHalf, timeRule, timeByte, decimal}
@@ -12,7 +26,81 @@ use Rattle.items.specs.Items.{items}
 use Rattle.items.specs.Item.{rowOf, put, putIn, putItem}
 use Rattle.desk.specs.Desk.{opening}
 use Rattle.sequence.specs.Sequence.{stepOf, kindOf}
-use Rattle.promises.specs.Values.{Values}
+use Rattle.promises.specs.Values.{inverted, Values}
+
+-- ---- a word with a bit inverted
+
+-- of a word of ten bits, b8 or b9 and nothing else is turned round
+record Turned (w v b8 b9 : ℕ) : Type 0 where
+  ten : v ≤ 1023
+  low : v % 256 ≡ w % 256
+  is-b8 : bit 8 v ≡ b8
+  is-b9 : bit 9 v ≡ b9
+
+-- it is the number of these bits over the same low byte
+from-parts : (w v b8 b9 : ℕ) → b8 < 2 → b9 < 2 → v ≡ w % 256 + 256 * b8 + 512 * b9 → Turned w v b8 b9
+unfolding bit
+from-parts w v b8 b9 h k e =
+    let low : w % 256 < 256 = mod-lt w (omega arith) in
+    let high : v / 256 ≡ b8 + 2 * b9 = omega arith in
+    let top : v / 512 ≡ b9 = omega arith in
+    record { ten = omega arith; low = omega arith; is-b8 = omega arith; is-b9 = omega arith }
+
+-- a bit is 1 or 0
+one-or-zero : {A : Type 0} (b : ℕ) → b < 2 → (b ≡ 1 → A) → (b ≡ 0 → A) → A
+one-or-zero b h f g = ⊎-elim (λ (l : b < 1). g (omega arith)) (λ (l : 1 ≤ b). f (omega arith)) (lt-or-le b 1)
+
+turns-b8 : (w : ℕ) → w ≤ 1023 → Turned w (inverted 8 w) (1 - bit 8 w) (bit 9 w)
+turns-b8 w h =
+    from-parts w (inverted 8 w) (1 - bit 8 w) (bit 9 w) (omega arith) (bit-lt 9 w)
+    (one-or-zero (bit 8 w) (bit-lt 8 w) (λ e. rw e (omega (arith, word-parts w h, e))) (λ e. rw e (omega (arith, word-parts w h, e))))
+
+turns-b9 : (w : ℕ) → w ≤ 1023 → Turned w (inverted 9 w) (bit 8 w) (1 - bit 9 w)
+turns-b9 w h =
+    from-parts w (inverted 9 w) (bit 8 w) (1 - bit 9 w) (bit-lt 8 w) (omega arith)
+    (one-or-zero (bit 9 w) (bit-lt 9 w) (λ e. rw e (omega (arith, word-parts w h, e))) (λ e. rw e (omega (arith, word-parts w h, e))))
+
+-- what the word check answers of a word whose low byte is that of a sound word
+module _ (w v b8 b9 : ℕ) (right : RightBits w) (t : Turned w v b8 b9) where
+  same-parity : evenParity v ≡ evenParity w
+  same-parity = sym (parity-low v) ∙ ap evenParity (t .low) ∙ parity-low w
+
+  answers : (x y : Bool) → eqb b8 (bit 8 w) ≡ x → eqb b9 (bit 9 w) ≡ y → soundnessOf v ≡ soundnessBy x y
+  unfolding b8Right b9Right
+  answers x y p q =
+      narrow-answer v (t .ten)
+      ∙ ap₂ soundnessBy
+      (ap₂ eqb (t .is-b8) (same-parity ∙ sym (right .b8)) ∙ p)
+      (ap₂ eqb (t .is-b9) (ap (λ (n : ℕ). 1 - n) same-parity ∙ sym (right .b9)) ∙ q)
+
+-- a bit is not its inverse
+turned-bit : (b : ℕ) → eqb (1 - b) b ≡ false
+turned-bit b = ne-eqb (1 - b) b (λ e. omega arith)
+
+same-bit : (b : ℕ) → eqb b b ≡ true
+same-bit b = eq-eqb b b refl
+
+module _ (w : ℕ) (s : isSound w ≡ true) where
+  right : RightBits w
+  right = sound-right w s
+
+  b8-wrong : soundnessOf (inverted 8 w) ≡ Unsound B8
+  b8-wrong = answers w (inverted 8 w) _ _ right (turns-b8 w (right .ten)) false true (turned-bit (bit 8 w)) (same-bit (bit 9 w))
+
+  b9-wrong : soundnessOf (inverted 9 w) ≡ Unsound B9
+  b9-wrong = answers w (inverted 9 w) _ _ right (turns-b9 w (right .ten)) true false (same-bit (bit 8 w)) (turned-bit (bit 9 w))
+
+  -- one after the other
+  twice : Turned w (inverted 8 (inverted 9 w)) (1 - bit 8 w) (1 - bit 9 w)
+  twice =
+      let t = turns-b9 w (right .ten) in
+      let u = turns-b8 (inverted 9 w) (t .ten) in
+      record { ten = u .ten; low = u .low ∙ t .low; is-b8 = u .is-b8 ∙ ap (λ (b : ℕ). 1 - b) (t .is-b8); is-b9 = u .is-b9 ∙ t .is-b9 }
+
+  both-wrong : soundnessOf (inverted 8 (inverted 9 w)) ≡ Unsound Both
+  both-wrong = answers w (inverted 8 (inverted 9 w)) _ _ right twice false false (turned-bit (bit 8 w)) (turned-bit (bit 9 w))
+
+-- ---- the table
 
 pub values : Values
 unfolding opening items rowOf put putIn putItem stepOf kindOf packetWords summedWords kind flag headerWord protectedWords soundWords wordOf withB9 bit ones evenParity total checksumOf parityOf remainder next divisorBytes _⊞_ scale _⊗_ byBits double _⊕_ soundByte oneOf pictureRule lowHalf timeRule timeByte decimal
@@ -37,4 +125,7 @@ values = record {
   second-60 = refl;
   index-15-then-0 = refl;
   index-3-then-2 = refl;
+  b8-inverted = b8-wrong;
+  b9-inverted = b9-wrong;
+  both-inverted = both-wrong;
 }

@@ -15,6 +15,7 @@ use lib.ListN.{length, take, drop, replicate, length-drop, take-append-drop}
 use lib.Seq.{length-take-le}
 use Rattle.anc.specs.Word.{wordOf, isSound, checksumOf}
 use Rattle.anc.proofs.Laws.Word.{sound-is-word}
+use Rattle.soundness.proofs.Laws.Run.{passed-sound}
 use Rattle.basics.specs.Each.{all}
 use Rattle.basics.proofs.Laws.Test.{both-true, lt-or-le}
 use Rattle.basics.proofs.Laws.Parts.{part-entries, same-cons, last-one}
@@ -138,9 +139,9 @@ protected-again ws A true e =
     let p = require-passed _ _ _ (rw e at (A .guarded)) in
     rw e (on-again (repaired (lowBytes (protectedOf ws))) (repaired-codeword _ (p .0)))
 protected-again ws A false e =
-    let p = require-passed _ _ _ (rw e at (A .guarded)) in
+    let p = next-passed _ _ (rw e at (A .guarded)) in
     let q = require-passed _ _ _ (p .1) in
-    rw e (off-again (protectedOf ws) (length-part ws (A .long)) (p .0) (q .0))
+    rw e (off-again (protectedOf ws) (length-part ws (A .long)) (passed-sound 1 (take 248 (protectedOf ws)) (p .0)) (q .0))
 
 -- an accepted packet's rewritten words are the layout of the bytes that are read
 pub again : (ws : List ℕ) → readRefusal ws ≡ none → packetWords (correctionOf ws) (indexOf ws) (readBytes ws) ≡ rewrittenPacket ws

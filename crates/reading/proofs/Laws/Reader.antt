@@ -4,14 +4,14 @@
 use mathlib.Core.Path.{_≡_, refl, sym, ap, _∙_}
 use mathlib.Core.Bool.{Bool, true, false}
 use mathlib.Core.List.{List, [], _∷_, _++_, append-nil}
-use Prim.Native.Nat.{ℕ, suc, _%_}
+use Prim.Native.Nat.{ℕ, suc, _%_, _≤_}
 use native.Mathlib.Omega.{arith}
 use lib.ListN.{length, take, drop, length-drop}
-use lib.Seq.{take-all}
-use Rattle.anc.specs.Word.{isSound}
-use Rattle.refusal.specs.Chain.{require, passed}
+use lib.Seq.{take-all, length-take-le}
+use Rattle.soundness.specs.Check.{unsoundFrom}
+use Rattle.refusal.specs.Chain.{require, next, passed}
 use Rattle.refusal.specs.Number.{refusalPlain}
-use Rattle.refusal.specs.declared.Reason.the-variants.{Parity, Fill, BeyondRepair}
+use Rattle.refusal.specs.declared.Reason.the-variants.{Fill, BeyondRepair}
 use Rattle.rs.specs.Decode.{changes, repairable, repaired, decodeRefusal}
 use Rattle.rs.proofs.Laws.Decode.{decode-decides}
 use Rattle.basics.specs.Each.{all}
@@ -24,7 +24,7 @@ use Rattle.repair.specs.declared.Repaired.{Repaired}
 use Rattle.repair.specs.declared.Repaired.the-variants.{Fixed, Refused}
 use Rattle.repair.proofs.Laws.Changes.{counted-words}
 use Rattle.anc.specs.Words.{lowBytes, soundWords}
-use Rattle.reading.specs.Reading.{word, correctionOf, indexOf, protectedOf, isFill, protectedRefusal}
+use Rattle.reading.specs.Reading.{word, correctionOf, indexOf, protectedOf, dataWords, isFill, protectedRefusal}
 use Rattle.reading.specs.Answer.{packetBy, guardBytes, summedBy}
 use Rattle.anc.proofs.Laws.Words.{lowBytes-length, soundWords-length, low-bytes, low-words}
 use Rattle.repair.proofs.Laws.Repair.{repaired-bytes, rewritten-length}
@@ -41,7 +41,7 @@ module _ (on : Bool) (ws : List ℕ) where
   repair-decides e n = decode-decides (lowBytes ws) (lowBytes-length ws ∙ n) ∙ sym (guarded-on e)
 
   pub guarded-off : on ≡ false
-      → protectedRefusal on ws ≡ require (all isSound (take 248 ws)) (refusalPlain Parity) (require (all isFill (drop 248 ws)) (refusalPlain Fill) passed)
+      → protectedRefusal on ws ≡ next (unsoundFrom 1 (take 248 ws)) (require (all isFill (drop 248 ws)) (refusalPlain Fill) passed)
   unfolding protectedRefusal
   guarded-off e = rw e
 
@@ -58,6 +58,10 @@ pub guardBytes-length : (on : Bool) (ws : List ℕ) → length (guardBytes on ws
 unfolding guardBytes
 guardBytes-length true ws = lowBytes-length (rewritten ws) ∙ rewritten-length ws
 guardBytes-length false ws = lowBytes-length ws
+
+-- the first 248 of 254 are no more than have places
+pub few-data : (ws : List ℕ) → length ws ≡ 254 → length (dataWords ws) ≤ 255
+few-data ws n = let m : length (take 248 ws) ≡ 248 = length-take-le 248 ws (omega arith) in omega arith
 
 -- the last six of 254
 pub last-six : (ws : List ℕ) → length ws ≡ 254 → take 6 (drop 248 ws) ≡ drop 248 ws

@@ -10,6 +10,7 @@ use lib.ListN.{length, take, drop, replicate}
 use lib.Seq.{take-at, drop-at}
 use Rattle.anc.specs.Word.{isSound}
 use Rattle.anc.proofs.Laws.Word.{word-sound}
+use Rattle.soundness.proofs.Laws.Run.{sound-passed}
 use Rattle.basics.specs.Each.{all}
 use Rattle.rs.specs.Codeword.{parityOf}
 use Rattle.basics.specs.Below.{Bytes}
@@ -92,7 +93,7 @@ module _ (ci : ℕ) (r : List ℕ) (hc : ci ≤ 15) (nr : length r ≡ 248) (br 
 
   off-passes : protectedRefusal (correctionOf off-words) (protectedOf off-words) ≡ none
   unfolding protectedRefusal
-  off-passes = simp (off, off-protected, off-data, off-fill, words-all isSound word-sound r br, six-fill)
+  off-passes = simp (off, off-protected, off-data, off-fill, sound-passed 1 (soundWords r) (words-all isSound word-sound r br), six-fill)
 
   off-read : readWords off-words ≡ protectedWords false r
   unfolding readWords

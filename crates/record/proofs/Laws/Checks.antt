@@ -1,21 +1,19 @@
--- The checks of 248 bytes, one after the other, and which refusals they do not give.
+-- The checks of 248 bytes, one after the other, and which numbers they do not refuse with.
 -- Assumes nothing.
 use mathlib.Core.Path.{_≡_, refl}
-use mathlib.Core.Bool.{true, not}
+use mathlib.Core.Bool.{true}
 use mathlib.Core.List.{List, [], _∷_, map}
-use mathlib.Core.Option.{some}
-use Prim.Native.Nat.{ℕ}
+use Prim.Native.Nat.{ℕ, _<_}
 use native.Mathlib.Omega.{arith}
-use lib.Dec.{eqb}
+use lib.Dec.{leb}
 use lib.ListN.{length, getD, take, drop}
-use borrow.Author.Tests.{eqb-true, not-true}
+use borrow.Author.Tests.{eqb-true, ne-eqb, leb-true}
 use Rattle.basics.specs.Each.{all}
 use Rattle.basics.proofs.Laws.Test.{both-true}
-use Rattle.refusal.proofs.Laws.Chain.{require-passed, passed-other, require-other, told}
+use Rattle.refusal.proofs.Laws.Chain.{require-passed, Without, without-passed, without-require, told}
 use Rattle.refusal.specs.Chain.{require, passed}
 use Rattle.refusal.specs.Number.{numberOf, refusalAt}
 use Rattle.refusal.specs.declared.Reason.the-variants.{Station, Time, Picture, Sound}
-use Rattle.refusal.specs.declared.Refusal.{Refusal}
 use Rattle.refusal.specs.declared.Checked.{Checked}
 use Rattle.refusal.specs.declared.Checked.the-variants.{Passed}
 use Rattle.refusal.specs.Checked.{checkedOf}
@@ -51,13 +49,14 @@ pub six-checks : (bytes : List ℕ) → length bytes ≡ 248 → recordRefusal b
 unfolding recordRefusal
 six-checks bytes h = rw (h, broken-items, sound-part bytes 26 (omega arith), sound-part bytes 27 (omega arith))
 
--- ---- what they do not give
+-- ---- a number that they do not refuse with
 
--- a refusal whose number is that of no row
-pub broken-other : (is : List Row) (bytes : List ℕ) (why : Refusal) → all (λ n. not (eqb n (numberOf (why .reason)))) (map (λ i. numberOf (i .reason)) is) ≡ true
-    → broken is bytes ≡ some why → ⊥
+-- n, below a bound that is below none of the rows' numbers
+pub broken-without : (n bound : ℕ) → n < bound → (is : List Row) (bytes : List ℕ) → all (λ m. leb bound m) (map (λ i. numberOf (i .reason)) is) ≡ true
+    → Without n (broken is bytes)
 unfolding broken all
-broken-other [] bytes why a e = passed-other why e
-broken-other (i ∷ is) bytes why a e =
-    let b = both-true (not (eqb (numberOf (i .reason)) (numberOf (why .reason)))) _ a in
-    broken-other is bytes why (b .1) (require-other (i .rule (part i bytes)) _ why _ e (not-true _ (b .0)))
+broken-without n bound h [] bytes a = without-passed
+broken-without n bound h (i ∷ is) bytes a =
+    let b = both-true (leb bound (numberOf (i .reason))) _ a in
+    let m : ℕ = numberOf (i .reason) in
+    without-require (i .rule (part i bytes)) _ (ne-eqb m n (λ e. omega (arith, leb-true bound m (b .0)))) (broken-without n bound h is bytes (b .1))

@@ -5,6 +5,7 @@ use mathlib.Core.Path.{_≡_, refl, sym, ap, _∙_}
 use mathlib.Core.Bool.{Bool, true, false, not, false≢true}
 use mathlib.Core.Option.{Option, none, some, Option·some-ne-none}
 use mathlib.Core.Logic.{_↔_}
+use Prim.Native.Nat.{ℕ}
 use lib.Dec.{eqb}
 use borrow.Author.Tests.{not-true, not-false, eq-eqb}
 use Rattle.refusal.specs.Chain.{require, passed, next}
@@ -29,14 +30,6 @@ next-passed (some why) rest e = absurd (Option·some-ne-none why e)
 pub passed-other : (why : Refusal) → passed ≡ some why → ⊥
 passed-other why e = Option·some-ne-none why (sym e)
 
--- not one whose refusal has another number: what stands behind it does
-pub require-other : (t : Bool) (other why : Refusal) (rest : Option Refusal) → require t other rest ≡ some why
-    → eqb (numberOf (other .reason)) (numberOf (why .reason)) ≡ false → rest ≡ some why
-require-other true other why rest e d = e
-require-other false other why rest e d =
-    let same : other ≡ why = cc in
-    absurd (false≢true (sym d ∙ eq-eqb _ _ (ap (λ (r : Refusal). numberOf (r .reason)) same)))
-
 -- where what stands behind it does not, a check gives its refusal exactly when its test fails
 pub require-gives : (t : Bool) (why : Refusal) (rest : Option Refusal) → (rest ≡ some why → ⊥) → (require t why rest ≡ some why) ↔ (t ≡ false)
 require-gives true why rest n = (λ e. absurd (n e), λ e. absurd (false≢true (sym e)))
@@ -50,6 +43,33 @@ next-gives (some no′) rest why n = (λ e. e, λ e. e)
 pub require-refused : (t : Bool) (w why : Refusal) (rest : Option Refusal) → require t w passed ≡ some why → require t w rest ≡ some why
 require-refused true w why rest e = absurd (Option·some-ne-none why (sym e))
 require-refused false w why rest e = e
+
+-- ---- a number that a chain does not refuse with
+
+pub record Without (n : ℕ) (o : Option Refusal) : Type 0 where
+  pub other : (why : Refusal) → o ≡ some why → eqb (numberOf (why .reason)) n ≡ false
+
+pub without-passed : {n : ℕ} → Without n passed
+without-passed = record { other = λ why e. absurd (passed-other why e) }
+
+-- each of its refusals has another number
+pub without-refused : {n : ℕ} (why : Refusal) → eqb (numberOf (why .reason)) n ≡ false → Without n (some why)
+without-refused why d = record { other = λ w e. let same : w ≡ why = cc in rw same d }
+
+pub without-require : {n : ℕ} {rest : Option Refusal} (t : Bool) (why : Refusal) → eqb (numberOf (why .reason)) n ≡ false → Without n rest → Without n (require t why rest)
+without-require true why d q = q
+without-require false why d q = without-refused why d
+
+pub without-next : {n : ℕ} {rest : Option Refusal} (first : Option Refusal) → Without n first → Without n rest → Without n (next first rest)
+without-next none p q = q
+without-next (some why) p q = p
+
+-- a chain is worked through by these, check by check
+pub ruleset without = (without-passed, without-refused, without-require, without-next)
+
+-- a refusal with that number is not what it gives
+pub never-gives : {o : Option Refusal} (why : Refusal) → Without (numberOf (why .reason)) o → o ≡ some why → ⊥
+never-gives why q e = false≢true (sym (q .other why e) ∙ eq-eqb (numberOf (why .reason)) (numberOf (why .reason)) refl)
 
 -- ---- an answer tells its refusal
 
@@ -83,6 +103,15 @@ pub record Chained (answer : Checked) (chain : Option Refusal → Option Refusal
 pub chained-none : Chained Passed (λ rest. rest)
 chained-none = record { behind = λ rest. refl }
 
+-- the checks of a call, by its answer
+pub chained-from : {answer : Checked} (first : Option Refusal) → answer ≡ checkedOf first → Chained answer (next first)
+chained-from first e = record { behind = λ rest. ap (λ (o : Option Refusal). next o rest) (ap refusalIn e ∙ refusal-in first) }
+
+-- three chains, one behind the other
+pub next-next : (a b c : Option Refusal) → next (next a b) c ≡ next a (next b c)
+next-next none b c = refl
+next-next (some why) b c = refl
+
 next-require : (first : Option Refusal) (ok : Bool) (why : Refusal) (rest : Option Refusal)
     → next (next first (require ok why passed)) rest ≡ next first (require ok why rest)
 next-require none true why rest = refl
@@ -99,7 +128,8 @@ chained-more {earlier} {answer} {ok} {test} {chain} why c e p = record {
       ∙ next-require (refusalIn earlier) ok why rest ∙ c .behind (require ok why rest) ∙ ap (λ (b : Bool). chain (require b why rest)) p;
 }
 
-answer-all : (answer : Checked) → answer ≡ checkedOf (next (refusalIn answer) passed)
+-- an answer is that of the checks in it
+pub answer-all : (answer : Checked) → answer ≡ checkedOf (next (refusalIn answer) passed)
 answer-all Passed = refl
 answer-all (Refused why) = refl
 

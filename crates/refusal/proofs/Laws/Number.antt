@@ -1,23 +1,25 @@
--- The numbers of the reasons are those of the fixed list, and no two reasons share one.
+-- The numbers of the reasons are those of the fixed list, and no two reasons share one; 7, and no other, comes with bits.
 -- Assumes nothing.
-use mathlib.Core.Path.{_≡_, refl, ap, sym, _∙_}
-use mathlib.Core.Bool.{Bool, true, false, cond, _||_}
+use mathlib.Core.Path.{_≡_, refl, sym, _∙_}
+use mathlib.Core.Bool.{Bool, true, false, not, cond, _||_}
 use mathlib.Core.List.{List, [], _∷_, map, List·Memᴰ, List·Memᴰ·head, List·Memᴰ·tail}
-use Prim.Native.Nat.{ℕ}
-use lib.Dec.{T, eqb}
+use Prim.Native.Nat.{ℕ, _≤_}
+use lib.Dec.{T, eqb, leb, leb→le}
 use borrow.Author.Tests.{eqb-true}
-use Rattle.refusal.specs.Number.{numberOf, fixedList}
+use Rattle.refusal.specs.Number.{numberOf, bitsOf, bitsIn, fixedList}
+use Rattle.refusal.specs.declared.Wrong.{Wrong}
+use Rattle.refusal.specs.declared.Wrong.the-variants.{B8, B9, Both}
 use Rattle.refusal.specs.declared.Reason.{Reason}
 use Rattle.refusal.specs.declared.Reason.the-variants.{Length, Wide, Flag, Kind, Count, Header, Parity, Fill, BeyondRepair, Checksum, Station, Time, Picture, Sound, Item, Size, NothingToUndo, Room, BrokenDesk, FieldLength, FieldHead, Index}
 
--- the reasons, in the order of the fixed list
-unfoldable pub reasons : List Reason
-reasons = Length ∷ Wide ∷ Flag ∷ Kind ∷ Count ∷ Header ∷ Parity ∷ Fill ∷ BeyondRepair ∷ Checksum ∷ Station ∷ Time ∷ Picture ∷ Sound ∷ Item ∷ Size ∷ NothingToUndo ∷ Room ∷ BrokenDesk ∷ FieldLength ∷ FieldHead ∷ Index ∷ []
+-- the reasons, in the order of the fixed list, where this is wrong with the word of 7
+unfoldable pub reasons : Wrong → List Reason
+reasons wrong = Length ∷ Wide ∷ Flag ∷ Kind ∷ Count ∷ Header ∷ Parity wrong ∷ Fill ∷ BeyondRepair ∷ Checksum ∷ Station ∷ Time ∷ Picture ∷ Sound ∷ Item ∷ Size ∷ NothingToUndo ∷ Room ∷ BrokenDesk ∷ FieldLength ∷ FieldHead ∷ Index ∷ []
 
 -- the fixed list is the numbers of the reasons, in order, and holds nothing else
-pub list-of-reasons : fixedList ≡ map numberOf reasons
+pub list-of-reasons : (wrong : Wrong) → fixedList ≡ map numberOf (reasons wrong)
 unfolding fixedList numberOf reasons
-list-of-reasons = refl
+list-of-reasons wrong = refl
 
 -- whether a number is on a list, as a test to compute
 isOn : ℕ → List ℕ → Bool
@@ -38,39 +40,58 @@ named : ℕ → List Reason → Reason
 named n [] = Length
 named n (why ∷ more) = cond (eqb n (numberOf why)) why (named n more)
 
--- what antt computes at each reason: its number is on the list, and finds the reason again
-at-each : (why : Reason) → T (isOn (numberOf why) fixedList) × (named (numberOf why) reasons ≡ why)
-unfolding isOn named fixedList numberOf reasons
+-- what the bits stand for; where they stand for nothing, any will do
+wrongOf : ℕ → Wrong
+wrongOf n = cond (eqb n 1) B8 (cond (eqb n 2) B9 Both)
+
+-- what antt computes at each reason: its number is on the list, it finds the reason again by its bits, and it has bits, 1 to 3, exactly where it
+-- is 7
+abbrev Known : Reason → Type 0
+Known why =
+    T (isOn (numberOf why) fixedList) × (named (numberOf why) (reasons (wrongOf (bitsIn why))) ≡ why) × (eqb (bitsIn why) 0 ≡ not (eqb (numberOf why) 7))
+    × T (leb (bitsIn why) 3)
+
+at-each : (why : Reason) → Known why
+unfolding isOn named wrongOf fixedList numberOf bitsOf bitsIn reasons
 at-each =
     elim [
-      | Length ↦ (tt, refl)
-      | Wide ↦ (tt, refl)
-      | Flag ↦ (tt, refl)
-      | Kind ↦ (tt, refl)
-      | Count ↦ (tt, refl)
-      | Header ↦ (tt, refl)
-      | Parity ↦ (tt, refl)
-      | Fill ↦ (tt, refl)
-      | BeyondRepair ↦ (tt, refl)
-      | Checksum ↦ (tt, refl)
-      | Station ↦ (tt, refl)
-      | Time ↦ (tt, refl)
-      | Picture ↦ (tt, refl)
-      | Sound ↦ (tt, refl)
-      | Item ↦ (tt, refl)
-      | Size ↦ (tt, refl)
-      | NothingToUndo ↦ (tt, refl)
-      | Room ↦ (tt, refl)
-      | BrokenDesk ↦ (tt, refl)
-      | FieldLength ↦ (tt, refl)
-      | FieldHead ↦ (tt, refl)
-      | Index ↦ (tt, refl)
+      | Length ↦ (tt, refl, refl, tt)
+      | Wide ↦ (tt, refl, refl, tt)
+      | Flag ↦ (tt, refl, refl, tt)
+      | Kind ↦ (tt, refl, refl, tt)
+      | Count ↦ (tt, refl, refl, tt)
+      | Header ↦ (tt, refl, refl, tt)
+      | Parity B8 ↦ (tt, refl, refl, tt)
+      | Parity B9 ↦ (tt, refl, refl, tt)
+      | Parity Both ↦ (tt, refl, refl, tt)
+      | Fill ↦ (tt, refl, refl, tt)
+      | BeyondRepair ↦ (tt, refl, refl, tt)
+      | Checksum ↦ (tt, refl, refl, tt)
+      | Station ↦ (tt, refl, refl, tt)
+      | Time ↦ (tt, refl, refl, tt)
+      | Picture ↦ (tt, refl, refl, tt)
+      | Sound ↦ (tt, refl, refl, tt)
+      | Item ↦ (tt, refl, refl, tt)
+      | Size ↦ (tt, refl, refl, tt)
+      | NothingToUndo ↦ (tt, refl, refl, tt)
+      | Room ↦ (tt, refl, refl, tt)
+      | BrokenDesk ↦ (tt, refl, refl, tt)
+      | FieldLength ↦ (tt, refl, refl, tt)
+      | FieldHead ↦ (tt, refl, refl, tt)
+      | Index ↦ (tt, refl, refl, tt)
     ]
 
 -- the number of every reason is on the fixed list
 pub number-on-list : (why : Reason) → List·Memᴰ (numberOf why) fixedList
 number-on-list why = on-list (numberOf why) fixedList (at-each why .0)
 
--- two reasons with the same number are the same reason
-pub number-inj : (a b : Reason) → numberOf a ≡ numberOf b → a ≡ b
-number-inj a b same = sym (at-each a .1) ∙ ap (λ n. named n reasons) same ∙ at-each b .1
+-- two reasons with the same number and the same bits are the same reason
+pub number-inj : (a b : Reason) → numberOf a ≡ numberOf b → bitsIn a ≡ bitsIn b → a ≡ b
+number-inj a b same bits = sym (at-each a .1) ∙ (λ i. named (same i) (reasons (wrongOf (bits i)))) ∙ at-each b .1
+
+-- a reason carries bits exactly where its number is 7
+pub bits-seven : (why : Reason) → eqb (bitsIn why) 0 ≡ not (eqb (numberOf why) 7)
+bits-seven why = at-each why .2
+
+pub bits-le : (why : Reason) → bitsIn why ≤ 3
+bits-le why = leb→le _ 3 (at-each why .3)

@@ -7,13 +7,12 @@ use mathlib.Core.Logic.{_↔_, Iff·trans, Iff·not}
 use mathlib.Core.Option.{Option, none, some}
 use Prim.Native.Nat.{ℕ}
 use borrow.Author.Tests.{eq-eqb}
-use lib.Dec.{eqb}
 use lib.ListN.{length}
 use Rattle.basics.proofs.Laws.Test.{never}
 use Rattle.anc.specs.Words.{lowBytes, narrow}
 use Rattle.refusal.specs.Number.{numberOf, refusalPlain}
-use Rattle.refusal.specs.declared.Reason.the-variants.{BeyondRepair, Room}
-use Rattle.refusal.proofs.Laws.Chain.{passed-other, require-other, require-gives}
+use Rattle.refusal.specs.declared.Reason.the-variants.{BeyondRepair}
+use Rattle.refusal.proofs.Laws.Chain.{require-gives, without, never-gives}
 use Rattle.rs.specs.Decode.{decode, given, repairable}
 use Rattle.rs.proofs.Laws.Decode.{decode-sound, decode-complete}
 use Rattle.repair.specs.Protected.{repairRefusal}
@@ -43,5 +42,5 @@ unfolding repairRefusal numberOf
 repair-beyond words room n w =
     simp (eq-eqb (length words) 254 n, w)
     (Iff·trans
-    (require-gives (repairable (lowBytes words)) (refusalPlain BeyondRepair) _ (λ e. passed-other _ (require-other (eqb room 254) (refusalPlain Room) _ _ e refl)))
+    (require-gives (repairable (lowBytes words)) (refusalPlain BeyondRepair) _ (never-gives (refusalPlain BeyondRepair) (search without)))
     (beyond-reach words))

@@ -5,14 +5,16 @@ use mathlib.Core.List.{List}
 use Prim.Native.Nat.{ℕ}
 use borrow.Author.Needs.{needs}
 use Rattle.basics.specs.Each.{all}
+use Rattle.soundness.specs.Check.{unsoundFrom}
 use Rattle.anc.proofs.Laws.Words.{low-filled}
+use Rattle.soundness.proofs.Laws.Run.{words-few}
 use Rattle.refusal.specs.Checked.{checkedOf}
 use Rattle.refusal.specs.Number.{refusalPlain}
-use Rattle.refusal.specs.declared.Reason.the-variants.{Parity, Fill}
-use Rattle.refusal.proofs.Laws.Chain.{chained-none, chained-more, chained-all}
+use Rattle.refusal.specs.declared.Reason.the-variants.{Fill}
+use Rattle.refusal.proofs.Laws.Chain.{chained-from, chained-more, chained-all}
 use Rattle.rs.specs.Decode.{repaired, decodeRefusal}
-use Rattle.reading.specs.Reading.{isFill}
-use Rattle.reading.proofs.Laws.Reader.{repair-decides, guarded-off, bytes-on, bytes-off, last-six}
+use Rattle.reading.specs.Reading.{isFill, dataWords}
+use Rattle.reading.proofs.Laws.Reader.{repair-decides, guarded-off, bytes-on, bytes-off, few-data, last-six}
 use Rattle.reading.proofs.reader.read_bytes.Statement.{statement}
 use Rattle.reading.proofs.reader.read_bytes.Tie as tie
 
@@ -31,14 +33,14 @@ returns c =
 returns-2 : tie.Need-returns-2
 returns-2 c =
     let f = c .before in
-    let t1 = f .before .before in
-    let e = t1 .before .before .before in
+    let k = f .before .before in
+    let e = k .before .before in
     let b = e .before .before .before in
     let s = b .before .before .before .before in
     let ws : List ℕ = s .args .words .now in
     let low = low-filled _ ws _ (b .low-bytes .ensures .1) (s .pre .0 ∙ sym (s .pre .1)) in
-    let c1 = chained-more (refusalPlain Parity) chained-none (t1 .then .ensures) (t1 .before .all-sound .ensures) in
-    let c2 = chained-more (refusalPlain Fill) c1 (c .then2 .ensures) (f .all-fill .ensures ∙ ap (all isFill) (last-six ws (s .pre .0))) in
+    let c1 = chained-from (unsoundFrom 1 (dataWords ws)) (k .check-words .ensures ∙ ap checkedOf (words-few (dataWords ws) (few-data ws (s .pre .0)))) in
+    let c2 = chained-more (refusalPlain Fill) c1 (c .then .ensures) (f .all-fill .ensures ∙ ap (all isFill) (last-six ws (s .pre .0))) in
     (chained-all c2 ∙ ap checkedOf (sym (guarded-off _ ws (e .if1 .left))), low ∙ bytes-off _ ws (e .if1 .left))
 
 pub read-bytes-spec : {M : Type 1} → statement M
@@ -52,7 +54,6 @@ read-bytes-spec =
     (λ c. search needs)
     (λ c. search needs)
     (λ c. search needs)
-    (λ c κs. search needs)
     (λ c κs. search needs)
     (λ c. search needs)
     (λ c. search needs)
