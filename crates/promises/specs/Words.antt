@@ -40,5 +40,5 @@ pub record FourAnswers (w : ℕ) (answer : Soundness) : Type 0 where
 -- is wrong with it, and given wherever a data word is not sound
 pub record ParityExactly (refusal : Option Refusal) (words : List ℕ) : Type 0 where
   pub at : (wrong : Wrong) (place : ℕ)
-      → (refusal ≡ some (refusalAt (Parity wrong) place)) ↔ (OffPacket words × FirstUnsound (dataWords (protectedOf words)) wrong place)
+      → (refusal ≡ some (refusalAt (Parity wrong) place)) ↔ (OffPacket words × FirstUnsound 1 (dataWords (protectedOf words)) wrong place)
   pub given : OffPacket words → all isSound (dataWords (protectedOf words)) ≡ false → (wrong : Wrong) × (place : ℕ) × (refusal ≡ some (refusalAt (Parity wrong) place))

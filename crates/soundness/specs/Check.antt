@@ -4,7 +4,7 @@ use mathlib.Core.Path.{_≡_}
 use mathlib.Core.Bool.{Bool, true, false, cond}
 use mathlib.Core.List.{List, [], _∷_}
 use mathlib.Core.Option.{Option, none, some}
-use Prim.Native.Nat.{ℕ, suc, _-_, _<_}
+use Prim.Native.Nat.{ℕ, suc, _+_, _-_, _<_}
 use lib.Dec.{leb, eqb}
 use lib.ListN.{length, getD}
 use Rattle.refusal.specs.Chain.{require, next, passed}
@@ -55,25 +55,25 @@ wrongIn (Refused why) = none
 -- ---- a run of words
 
 -- what word number n is refused for, by what the word check answers of it: 7 at its number, which says what is wrong with it; or 2
-abbrev pub refusedAt : ℕ → Soundness → Option Refusal
-refusedAt n Sound = passed
-refusedAt n (Unsound wrong) = some (refusalAt (Parity wrong) n)
-refusedAt n (Refused why) = some why
+abbrev pub wordRefusal : ℕ → Soundness → Option Refusal
+wordRefusal n Sound = passed
+wordRefusal n (Unsound wrong) = some (refusalAt (Parity wrong) n)
+wordRefusal n (Refused why) = some why
 
 -- words that are numbered on from n: the first that is not sound is the refusal
 unfoldable pub unsoundFrom : ℕ → List ℕ → Option Refusal
 unsoundFrom n [] = passed
-unsoundFrom n (w ∷ words) = next (refusedAt n (soundnessOf w)) (unsoundFrom (suc n) words)
+unsoundFrom n (w ∷ words) = next (wordRefusal n (soundnessOf w)) (unsoundFrom (suc n) words)
 
 -- words that are numbered from 1: 21 for more of them than there are places, then that
 unfoldable pub wordsRefusal : List ℕ → Option Refusal
 wordsRefusal words = require (leb (length words) 255) (refusalPlain Size) (unsoundFrom 1 words)
 
--- the first word that is not sound is the one at this place, counted from 1, and this is wrong with it
-pub record FirstUnsound (words : List ℕ) (wrong : Wrong) (place : ℕ) : Type 0 where
+-- the first word that is not sound, of words that are numbered on from n, is the one at this place, and this is wrong with it
+pub record FirstUnsound (n : ℕ) (words : List ℕ) (wrong : Wrong) (place : ℕ) : Type 0 where
   -- how many words stand before it
   pub before : ℕ
-  pub number : place ≡ suc before
+  pub number : place ≡ n + before
   pub within : before < length words
   pub here : soundnessOf (getD words before 0) ≡ Unsound wrong
   pub earlier : (i : ℕ) → i < before → isSound (getD words i 0) ≡ true

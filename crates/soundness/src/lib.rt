@@ -5,7 +5,7 @@ ghost use lib.ListN.{length};
 ghost use Rattle.basics.specs.Each.{all};
 ghost use Rattle.refusal.specs.Checked.{checkedOf};
 ghost use Rattle.anc.specs.Word.{isSound};
-ghost use Rattle.soundness.specs.Check.{soundnessBy, soundnessOf, refusedAt, unsoundFrom, wordsRefusal};
+ghost use Rattle.soundness.specs.Check.{soundnessBy, soundnessOf, wordRefusal, unsoundFrom, wordsRefusal};
 use refusal::Checked;
 use refusal::Reason;
 use refusal::Wrong;
@@ -47,8 +47,8 @@ pub fn check_word(word: u16) -> Soundness
 }
 
 // What a word is refused for at its number: what is wrong with it, or that it is no word of ten bits.
-fn refused_at(number: u8, word: u16) -> Checked
-    ensures { λ r. ⌜ r ≡ checkedOf (refusedAt number (soundnessOf word)) ⌝ }
+fn word_refusal(number: u8, word: u16) -> Checked
+    ensures { λ r. ⌜ r ≡ checkedOf (wordRefusal number (soundnessOf word)) ⌝ }
 {
     let soundness = check_word(word);
     match soundness {
@@ -81,7 +81,7 @@ fn first_unsound(words: &[u16]) -> Checked
     let mut found = Checked::Passed;
     let mut i = 0;
     while i < words.len() {
-        found = refusal::next(found, refused_at((i + 1) as u8, words[i]));
+        found = refusal::next(found, word_refusal((i + 1) as u8, words[i]));
         i += 1;
     }
     found

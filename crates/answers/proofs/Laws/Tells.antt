@@ -2,20 +2,19 @@
 -- answers that are not refused with 7.
 -- Assumes nothing.
 use mathlib.Core.Path.{_≡_, refl, ap, sym, _∙_}
-use mathlib.Core.Bool.{not, cond}
+use mathlib.Core.Bool.{cond}
 use mathlib.Core.Option.{Option, none, some}
-use Prim.Native.Nat.{ℕ}
+use Prim.Native.Nat.{ℕ, _<_}
 use lib.Dec.{eqb}
 use native.Mathlib.Omega.{arith}
-use borrow.Author.Tests.{eqb-true}
+use borrow.Author.Tests.{leb-true, leb-false}
 use Rattle.refusal.specs.Number.{numberOf, bitsOf, bitsIn}
 use Rattle.refusal.specs.declared.Wrong.{Wrong}
-use Rattle.refusal.specs.declared.Wrong.the-variants.{B8, B9, Both}
 use Rattle.refusal.specs.declared.Reason.{Reason}
 use Rattle.refusal.specs.declared.Reason.the-variants.{Parity}
 use Rattle.refusal.specs.declared.Refusal.{Refusal}
 use Rattle.refusal.proofs.Laws.Number.{number-inj, bits-seven}
-use Rattle.refusal.proofs.Laws.Chain.{Without}
+use Rattle.refusal.proofs.Laws.Chain.{checked-in, Without}
 use Rattle.soundness.specs.declared.Soundness.{Soundness}
 use Rattle.soundness.specs.declared.Soundness.the-variants.{Sound, Unsound, Refused as RefusedWord}
 use Rattle.reading.specs.declared.Reading.{Reading}
@@ -25,7 +24,6 @@ use Rattle.repair.specs.declared.Repaired.the-variants.{Fixed, Refused as Refus
 use Rattle.b40.specs.declared.Unpacked.{Unpacked}
 use Rattle.b40.specs.declared.Unpacked.the-variants.{Done as HeadOf, Refused as RefusedField}
 use Rattle.refusal.specs.declared.Checked.{Checked}
-use Rattle.refusal.specs.declared.Checked.the-variants.{Passed, Refused as RefusedCheck}
 use Rattle.refusal.specs.Checked.{checkedOf, refusalIn}
 use Rattle.repair.specs.Repair.{refusalIn as refusalInRepaired}
 use Rattle.b40.specs.Unpacking.{refusalIn as refusalInField}
@@ -61,7 +59,7 @@ refusal-known a b n p q = together (a .reason) (b .reason) (a .place) (b .place)
 
 -- one that is not 7 has none
 bare : (a : Refusal) → Without 7 (some a) → bitsIn (a .reason) ≡ 0
-bare a w = eqb-true (bitsIn (a .reason)) 0 (bits-seven (a .reason) ∙ ap not (w .other a refl))
+bare a w = let none′ : bitsIn (a .reason) < 1 = leb-false 1 (bitsIn (a .reason)) (bits-seven (a .reason) ∙ w .other a refl) in omega arith
 
 -- and is known by its number and place
 bare-known : (a b : Refusal) → Without 7 (some a) → Without 7 (some b) → numberOf (a .reason) ≡ numberOf (b .reason) → a .place ≡ b .place → a ≡ b
@@ -84,10 +82,8 @@ unfolding bitsIn
 bits-known a b e = let same : Parity a ≡ Parity b = number-inj (Parity a) (Parity b) (unfold numberOf in refl) e in cc
 
 bits-positive : {A : Type 0} (a : Wrong) → bitsOf a ≡ 0 → A
-unfolding bitsOf
-bits-positive B8 e = absurd (omega arith)
-bits-positive B9 e = absurd (omega arith)
-bits-positive Both e = absurd (omega arith)
+unfolding bitsIn numberOf
+bits-positive a e = absurd (omega (arith, leb-true 1 (bitsOf a) (bits-seven (Parity a))))
 
 pub word-tells : (a b : Soundness) → wordFrom a ≡ wordFrom b → a ≡ b
 unfolding wordFrom
@@ -126,16 +122,11 @@ field-tells (RefusedField a) (HeadOf k) v w e = never-zero (a .reason) (ap (λ (
 field-tells (RefusedField a) (RefusedField b) v w e =
     ap RefusedField (bare-known a b v w (ap (λ (x : AyField). x .number) e) (ap (λ (x : AyField). x .place) e))
 
--- a check is known by the refusal in it
-checked-back : (c : Checked) → checkedOf (refusalIn c) ≡ c
-checked-back Passed = refl
-checked-back (RefusedCheck why) = refl
-
 pub turn-tells : (a b : Turn) → Without 7 (refusalIn (a .checked)) → Without 7 (refusalIn (b .checked)) → turnFrom a ≡ turnFrom b → a ≡ b
 unfolding turnFrom
 turn-tells a b v w e =
     together (a .desk) (b .desk) (a .checked) (b .checked) (ap (λ (x : AyTurn). x .desk) e)
-    (sym (checked-back _) ∙ ap checkedOf (known _ _ v w (ap (λ (x : AyTurn). x .number) e) (ap (λ (x : AyTurn). x .place) e)) ∙ checked-back _)
+    (sym (checked-in _) ∙ ap checkedOf (known _ _ v w (ap (λ (x : AyTurn). x .number) e) (ap (λ (x : AyTurn). x .place) e)) ∙ checked-in _)
   where
     together : (d f : Desk) (c k : Checked) → d ≡ f → c ≡ k → _≡_ {A = Turn} (record { desk = d; checked = c }) (record { desk = f; checked = k })
     together d f c k p q = rw (p, q)

@@ -3,10 +3,10 @@
 use mathlib.Core.Path.{_≡_, refl, sym, ap, ap₂, _∙_}
 use mathlib.Core.List.{List, [], _∷_, _++_, append-nil}
 use Prim.Native.Nat.{ℕ, zero, suc, _+_, _≤_, _<_}
-use native.Mathlib.Nat.{not-suc-le-zero, le-of-suc-le-suc}
+use native.Mathlib.Nat.{not-suc-le-zero, le-of-suc-le-suc, min-le-left}
 use native.Mathlib.Numerals.{add-one}
 use native.Mathlib.Omega.{arith}
-use lib.ListN.{length, getD, set, take, drop, drop-of-length-le, length-set, length-drop}
+use lib.ListN.{length, getD, set, take, drop, drop-of-length-le, length-set, length-take, length-drop}
 use lib.Seq.{length-take-le, drop-cons, take-all, take-at, drop-at, take-add, take-take, drop-drop, drop-append-add, getD-take, getD-drop}
 
 -- ---- runs of a list
@@ -14,6 +14,10 @@ use lib.Seq.{length-take-le, drop-cons, take-all, take-at, drop-at, take-add, ta
 -- a run that lies within a list has its length
 pub run-length : (l : List ℕ) (s n : ℕ) → s + n ≤ length l → length (take n (drop s l)) ≡ n
 run-length l s n h = length-take-le n (drop s l) (simp length-drop (omega arith))
+
+-- so many entries at the most
+pub take-most : (n : ℕ) (l : List ℕ) → length (take n l) ≤ n
+take-most n l = rw length-take (min-le-left n (length l))
 
 -- a run and the one behind it
 pub join : (l : List ℕ) (s n m : ℕ) (r : List ℕ) → r ≡ take m (drop (s + n) l) → take n (drop s l) ++ r ≡ take (n + m) (drop s l)

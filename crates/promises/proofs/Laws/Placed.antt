@@ -6,11 +6,12 @@ use mathlib.Core.Bool.{Bool, true, false, not, cond, _||_, false≢true}
 use mathlib.Core.List.{List, [], _∷_, List·Memᴰ, List·Memᴰ·head, List·Memᴰ·tail}
 use mathlib.Core.Logic.{_⊎_, inl, inr, ⊎-elim}
 use mathlib.Core.Option.{Option, none, some, Option·some-ne-none}
-use Prim.Native.Nat.{ℕ, zero, suc, _+_, _≤_}
+use Prim.Native.Nat.{ℕ, suc, _+_, _≤_}
 use native.Mathlib.Omega.{arith}
 use borrow.Author.Tests.{eqb-true, leb-true}
 use lib.Dec.{leb, eqb}
-use lib.ListN.{length, take}
+use lib.ListN.{length}
+use Rattle.basics.proofs.Laws.Parts.{take-most}
 use Rattle.refusal.specs.Chain.{require, passed, next}
 use Rattle.refusal.specs.Checked.{refusalIn}
 use Rattle.refusal.specs.Number.{numberOf, refusalAt, refusalPlain}
@@ -21,7 +22,7 @@ use Rattle.refusal.proofs.Laws.Chain.{passed-other}
 use Rattle.anc.specs.Words.{fillRefusal}
 use Rattle.soundness.specs.declared.Soundness.{Soundness}
 use Rattle.soundness.specs.declared.Soundness.the-variants.{Sound, Unsound, Refused}
-use Rattle.soundness.specs.Check.{soundnessOf, refusalIn as refusalInWord, refusedAt, unsoundFrom, wordsRefusal}
+use Rattle.soundness.specs.Check.{soundnessOf, refusalIn as refusalInWord, wordRefusal, unsoundFrom, wordsRefusal}
 use Rattle.soundness.proofs.Laws.Check.{refused-wide}
 use Rattle.rs.specs.Codeword.{blockRefusal}
 use Rattle.rs.specs.Decode.{decodeRefusal}
@@ -156,7 +157,7 @@ item-right n bytes = row-right bytes (rowOf n items) (row-listed n items)
 
 -- numbered on from n, up to the last
 module _ (last : ℕ) where
-  word-right : (n w : ℕ) (a : Soundness) → soundnessOf w ≡ a → 1 ≤ n → n ≤ last → RightIn last (refusedAt n a)
+  word-right : (n w : ℕ) (a : Soundness) → soundnessOf w ≡ a → 1 ≤ n → n ≤ last → RightIn last (wordRefusal n a)
   unfolding numberOf
   word-right n w Sound e h k = passed-right
   word-right n w (Unsound wrong) e h k =
@@ -168,11 +169,6 @@ module _ (last : ℕ) where
   unfolding unsoundFrom
   unsound-right n [] h k = passed-right
   unsound-right n (w ∷ words) h k = next-right _ (word-right n w (soundnessOf w) refl h (omega arith)) (unsound-right (suc n) words (omega arith) (omega arith))
-
-take-most : (n : ℕ) (l : List ℕ) → length (take n l) ≤ n
-take-most zero l = omega arith
-take-most (suc n) [] = omega arith
-take-most (suc n) (x ∷ l) = omega (arith, take-most n l)
 
 pub check-right : (w : ℕ) → RightIn 0 (refusalInWord (soundnessOf w))
 check-right w = by (soundnessOf w) refl

@@ -1,12 +1,12 @@
 -- Demand 1: the place of a refusal is the item's first byte for 11 to 14, a data word's number for 7, else 0. Of each public call that can refuse, under its name, with its
 -- crate's where two share one; and of the calls for C. `Learnt` is the contract as its caller may use it.
 -- Assumes nothing.
-use mathlib.Core.Path.{_≡_, refl, ap, _∙_}
-use mathlib.Core.Bool.{not, false≢true}
+use mathlib.Core.Path.{refl, _∙_}
+use mathlib.Core.Bool.{false≢true}
 use mathlib.Core.Option.{Option, none, some}
-use Prim.Native.Nat.{ℕ, zero, suc, _≤_}
+use Prim.Native.Nat.{ℕ}
 use native.Mathlib.Omega.{arith}
-use borrow.Author.Tests.{eqb-true, eqb-false}
+use borrow.Author.Tests.{leb-true, leb-false}
 use Rattle.refusal.specs.Checked.{refusalIn}
 use Rattle.refusal.specs.Number.{numberOf, bitsIn}
 use Rattle.refusal.specs.declared.Reason.{Reason}
@@ -271,12 +271,11 @@ ay-follower-follow κs i a s p = rw p (says-right (followed-says _) (rw refusal-
 
 -- ---- the bits beside 7
 
-carried : (n : ℕ) → (n ≡ 0 → ⊥) → 1 ≤ n
-carried zero h = absurd (h refl)
-carried (suc n) h = omega arith
-
 reason-bits : (why : Reason) → BitsBeside (numberOf why) (bitsIn why)
-reason-bits why = record { of-word = λ t. (carried (bitsIn why) (eqb-false (bitsIn why) 0 (bits-seven why ∙ ap not t)), bits-le why); else-zero = λ f. eqb-true _ 0 (bits-seven why ∙ ap not f) }
+reason-bits why = record {
+  of-word = λ t. (leb-true 1 (bitsIn why) (bits-seven why ∙ t), bits-le why);
+  else-zero = λ f. omega (arith, leb-false 1 (bitsIn why) (bits-seven why ∙ f));
+}
 
 no-bits : BitsBeside 0 0
 no-bits = record { of-word = λ t. absurd (false≢true t); else-zero = λ f. refl }

@@ -102,8 +102,8 @@ module _ (w : ℕ) where
 
 -- of up to 255: 7 is given exactly at the first that is not sound, and says what is wrong with it
 pub check-words-first : (words : List ℕ) → length words ≤ 255 → (a : Checked) → ChecksWords words a → (wrong : Wrong) (place : ℕ)
-    → (refusalInCheck a ≡ some (refusalAt (Parity wrong) place)) ↔ FirstUnsound words wrong place
-check-words-first words h a C wrong place = rw (checks-words-is words a C, refusal-in, words-few words h) (first-exactly words wrong place)
+    → (refusalInCheck a ≡ some (refusalAt (Parity wrong) place)) ↔ FirstUnsound 1 words wrong place
+check-words-first words h a C wrong place = rw (checks-words-is words a C, refusal-in, words-few words h) (first-exactly 1 words wrong place)
 
 -- ---- a packet
 

@@ -66,14 +66,14 @@ module _ (ws : List ℕ) (head : headRefusal ws ≡ none) (off : correctionOf ws
 -- ---- any words
 
 pub read-parity : (ws : List ℕ) (wrong : Wrong) (place : ℕ)
-    → (readRefusal ws ≡ some (refusalAt (Parity wrong) place)) ↔ (OffPacket ws × FirstUnsound (dataWords (protectedOf ws)) wrong place)
-read-parity ws wrong place = (by (headRefusal ws) (correctionOf ws) refl refl, λ ((head, off), F). data-decide ws head off wrong place .1 (first-exactly _ wrong place .1 F))
+    → (readRefusal ws ≡ some (refusalAt (Parity wrong) place)) ↔ (OffPacket ws × FirstUnsound 1 (dataWords (protectedOf ws)) wrong place)
+read-parity ws wrong place = (by (headRefusal ws) (correctionOf ws) refl refl, λ ((head, off), F). data-decide ws head off wrong place .1 (first-exactly 1 _ wrong place .1 F))
   where
     by : (h : Option Refusal) (on : Bool) → headRefusal ws ≡ h → correctionOf ws ≡ on → readRefusal ws ≡ some (refusalAt (Parity wrong) place)
-        → OffPacket ws × FirstUnsound (dataWords (protectedOf ws)) wrong place
+        → OffPacket ws × FirstUnsound 1 (dataWords (protectedOf ws)) wrong place
     by (some why) on h c e = absurd (not-seven wrong place (read-head ws why h) e)
     by none true h c e = absurd (not-seven wrong place (read-on ws c) e)
-    by none false h c e = ((h, c), first-exactly _ wrong place .0 (data-decide ws h c wrong place .0 e))
+    by none false h c e = ((h, c), first-exactly 1 _ wrong place .0 (data-decide ws h c wrong place .0 e))
 
 -- where a data word is not sound, it is given
 pub read-unsound : (ws : List ℕ) → OffPacket ws → all isSound (dataWords (protectedOf ws)) ≡ false

@@ -4,10 +4,10 @@
 use mathlib.Core.Path.{_≡_, refl, sym, ap, _∙_}
 use mathlib.Core.Bool.{Bool, true, false}
 use mathlib.Core.List.{List, [], _∷_, _++_, append-nil}
-use Prim.Native.Nat.{ℕ, suc, _%_, _≤_}
+use Prim.Native.Nat.{ℕ, suc, _%_}
 use native.Mathlib.Omega.{arith}
 use lib.ListN.{length, take, drop, length-drop}
-use lib.Seq.{take-all, length-take-le}
+use lib.Seq.{take-all}
 use Rattle.soundness.specs.Check.{unsoundFrom}
 use Rattle.refusal.specs.Chain.{require, next, passed}
 use Rattle.refusal.specs.Number.{refusalPlain}
@@ -41,7 +41,7 @@ module _ (on : Bool) (ws : List ℕ) where
   repair-decides e n = decode-decides (lowBytes ws) (lowBytes-length ws ∙ n) ∙ sym (guarded-on e)
 
   pub guarded-off : on ≡ false
-      → protectedRefusal on ws ≡ next (unsoundFrom 1 (take 248 ws)) (require (all isFill (drop 248 ws)) (refusalPlain Fill) passed)
+      → protectedRefusal on ws ≡ next (unsoundFrom 1 (dataWords ws)) (require (all isFill (drop 248 ws)) (refusalPlain Fill) passed)
   unfolding protectedRefusal
   guarded-off e = rw e
 
@@ -58,10 +58,6 @@ pub guardBytes-length : (on : Bool) (ws : List ℕ) → length (guardBytes on ws
 unfolding guardBytes
 guardBytes-length true ws = lowBytes-length (rewritten ws) ∙ rewritten-length ws
 guardBytes-length false ws = lowBytes-length ws
-
--- the first 248 of 254 are no more than have places
-pub few-data : (ws : List ℕ) → length ws ≡ 254 → length (dataWords ws) ≤ 255
-few-data ws n = let m : length (take 248 ws) ≡ 248 = length-take-le 248 ws (omega arith) in omega arith
 
 -- the last six of 254
 pub last-six : (ws : List ℕ) → length ws ≡ 254 → take 6 (drop 248 ws) ≡ drop 248 ws

@@ -77,6 +77,11 @@ pub refusal-in : (o : Option Refusal) → refusalIn (checkedOf o) ≡ o
 refusal-in none = refl
 refusal-in (some why) = refl
 
+-- and is known by it
+pub checked-in : (a : Checked) → checkedOf (refusalIn a) ≡ a
+checked-in Passed = refl
+checked-in (Refused why) = refl
+
 -- the refusal of an answer that turned out to be b
 pub told : (o : Option Refusal) (a b : Checked) → a ≡ checkedOf o → a ≡ b → o ≡ refusalIn b
 told o a b e d = sym (refusal-in o) ∙ ap refusalIn (sym e ∙ d)

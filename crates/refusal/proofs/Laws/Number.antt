@@ -1,7 +1,7 @@
 -- The numbers of the reasons are those of the fixed list, and no two reasons share one; 7, and no other, comes with bits.
 -- Assumes nothing.
 use mathlib.Core.Path.{_≡_, refl, sym, _∙_}
-use mathlib.Core.Bool.{Bool, true, false, not, cond, _||_}
+use mathlib.Core.Bool.{Bool, true, false, cond, _||_}
 use mathlib.Core.List.{List, [], _∷_, map, List·Memᴰ, List·Memᴰ·head, List·Memᴰ·tail}
 use Prim.Native.Nat.{ℕ, _≤_}
 use lib.Dec.{T, eqb, leb, leb→le}
@@ -48,7 +48,7 @@ wrongOf n = cond (eqb n 1) B8 (cond (eqb n 2) B9 Both)
 -- is 7
 abbrev Known : Reason → Type 0
 Known why =
-    T (isOn (numberOf why) fixedList) × (named (numberOf why) (reasons (wrongOf (bitsIn why))) ≡ why) × (eqb (bitsIn why) 0 ≡ not (eqb (numberOf why) 7))
+    T (isOn (numberOf why) fixedList) × (named (numberOf why) (reasons (wrongOf (bitsIn why))) ≡ why) × (leb 1 (bitsIn why) ≡ eqb (numberOf why) 7)
     × T (leb (bitsIn why) 3)
 
 at-each : (why : Reason) → Known why
@@ -90,7 +90,7 @@ pub number-inj : (a b : Reason) → numberOf a ≡ numberOf b → bitsIn a ≡ b
 number-inj a b same bits = sym (at-each a .1) ∙ (λ i. named (same i) (reasons (wrongOf (bits i)))) ∙ at-each b .1
 
 -- a reason carries bits exactly where its number is 7
-pub bits-seven : (why : Reason) → eqb (bitsIn why) 0 ≡ not (eqb (numberOf why) 7)
+pub bits-seven : (why : Reason) → leb 1 (bitsIn why) ≡ eqb (numberOf why) 7
 bits-seven why = at-each why .2
 
 pub bits-le : (why : Reason) → bitsIn why ≤ 3

@@ -73,8 +73,8 @@ not-sound w n = by (isSound w) refl
     by false e = e
 
 -- a word of ten bits is not refused
-pub wide-never : (w : ℕ) (why : Refusal) → w ≤ 1023 → soundnessOf w ≡ Refused why → ⊥
-wide-never w why h e = by (b8Right w) (b9Right w) (sym (narrow-answer w h) ∙ e)
+pub narrow-unrefused : (w : ℕ) (why : Refusal) → w ≤ 1023 → soundnessOf w ≡ Refused why → ⊥
+narrow-unrefused w why h e = by (b8Right w) (b9Right w) (sym (narrow-answer w h) ∙ e)
   where
     by : (b8 b9 : Bool) → soundnessBy b8 b9 ≡ Refused why → ⊥
     by true true e = passed-other why (ap refusalIn e)
@@ -87,5 +87,5 @@ pub refused-wide : (w : ℕ) (why : Refusal) → soundnessOf w ≡ Refused why �
 refused-wide w why e =
     ⊎-elim
     (λ (h : 1023 < w). let same : Refused why ≡ Refused (refusalPlain Wide) = sym e ∙ wide-refused w h in cc)
-    (λ (h : w ≤ 1023). absurd (wide-never w why h e))
+    (λ (h : w ≤ 1023). absurd (narrow-unrefused w why h e))
     (lt-or-le 1023 w)

@@ -1,6 +1,6 @@
 -- A run of words: that none is refused exactly where each is sound, which word is the first that is not, and a loop that looks for it.
 -- Assumes nothing.
-use mathlib.Core.Path.{_≡_, refl, sym, ap, _∙_}
+use mathlib.Core.Path.{_≡_, refl, sym, ap, _∙_, subst}
 use mathlib.Core.Bool.{Bool, true, false, _&&_, false≢true}
 use mathlib.Core.List.{List, [], _∷_}
 use mathlib.Core.Logic.{_↔_}
@@ -28,13 +28,13 @@ use Rattle.soundness.specs.declared.Soundness.{Soundness}
 use Rattle.soundness.specs.declared.Soundness.the-variants.{Sound, Unsound, Refused}
 use Rattle.anc.specs.Word.{isSound}
 use Rattle.anc.specs.Words.{narrow}
-use Rattle.soundness.specs.Check.{soundnessOf, refusedAt, unsoundFrom, wordsRefusal, FirstUnsound}
-use Rattle.soundness.proofs.Laws.Check.{sound-checked, checked-sound, wide-never, refused-wide}
+use Rattle.soundness.specs.Check.{soundnessOf, wordRefusal, unsoundFrom, wordsRefusal, FirstUnsound}
+use Rattle.soundness.proofs.Laws.Check.{sound-checked, checked-sound, narrow-unrefused, refused-wide}
 
 -- ---- which words are refused
 
 -- only a sound word is not refused
-refused-none : (n : ℕ) (s : Soundness) → refusedAt n s ≡ none → s ≡ Sound
+refused-none : (n : ℕ) (s : Soundness) → wordRefusal n s ≡ none → s ≡ Sound
 refused-none n Sound e = refl
 refused-none n (Unsound wrong) e = absurd (Option·some-ne-none _ e)
 refused-none n (Refused why) e = absurd (Option·some-ne-none why e)
@@ -51,17 +51,17 @@ pub passed-sound : (n : ℕ) (words : List ℕ) → unsoundFrom n words ≡ none
 unfolding all unsoundFrom
 passed-sound n [] e = refl
 passed-sound n (w ∷ words) e =
-    let both = next-passed (refusedAt n (soundnessOf w)) (unsoundFrom (suc n) words) e in
+    let both = next-passed (wordRefusal n (soundnessOf w)) (unsoundFrom (suc n) words) e in
     rw (checked-sound w (refused-none n (soundnessOf w) (both .0))) (passed-sound (suc n) words (both .1))
 
 -- 7 is not 2
-never-wide : (wrong : Wrong) (place : ℕ) → refusalAt (Parity wrong) place ≡ refusalPlain Wide → ⊥
+seven-not-two : (wrong : Wrong) (place : ℕ) → refusalAt (Parity wrong) place ≡ refusalPlain Wide → ⊥
 unfolding numberOf
-never-wide wrong place e = let n : _≡_ {A = ℕ} 7 2 = ap (λ (r : Refusal). numberOf (r .reason)) e in omega arith
+seven-not-two wrong place e = let n : _≡_ {A = ℕ} 7 2 = ap (λ (r : Refusal). numberOf (r .reason)) e in omega arith
 
 -- a run is refused with 7 or with 2
 module _ (m : ℕ) (seven : eqb 7 m ≡ false) (two : eqb 2 m ≡ false) where
-  refused-without : (n w : ℕ) (s : Soundness) → soundnessOf w ≡ s → Without m (refusedAt n s)
+  refused-without : (n w : ℕ) (s : Soundness) → soundnessOf w ≡ s → Without m (wordRefusal n s)
   unfolding numberOf
   refused-without n w Sound e = without-passed
   refused-without n w (Unsound wrong) e = without-refused _ seven
@@ -74,57 +74,53 @@ module _ (m : ℕ) (seven : eqb 7 m ≡ false) (two : eqb 2 m ≡ false) where
 
 -- ---- the first word that is not sound
 
--- so many words stand before it
-pub record FirstAt (words : List ℕ) (wrong : Wrong) (k : ℕ) : Type 0 where
-  pub within : k < length words
-  pub here : soundnessOf (getD words k 0) ≡ Unsound wrong
-  pub earlier : (i : ℕ) → i < k → isSound (getD words i 0) ≡ true
-
 -- it is at the head
-first-head : (w : ℕ) (words : List ℕ) (wrong : Wrong) → soundnessOf w ≡ Unsound wrong → FirstAt (w ∷ words) wrong 0
-first-head w words wrong e = record { within = omega arith; here = e; earlier = λ i h. absurd (not-suc-le-zero h) }
+first-head : (n w : ℕ) (words : List ℕ) (wrong : Wrong) → soundnessOf w ≡ Unsound wrong → FirstUnsound n (w ∷ words) wrong n
+first-head n w words wrong e = record { before = 0; number = omega arith; within = omega arith; here = e; earlier = λ i h. absurd (not-suc-le-zero h) }
 
 -- or behind a sound word
-first-behind : (w : ℕ) (words : List ℕ) (wrong : Wrong) (k : ℕ) → isSound w ≡ true → FirstAt words wrong k → FirstAt (w ∷ words) wrong (suc k)
-first-behind w words wrong k s f = record { within = omega (arith, f .within); here = f .here; earlier = before }
+first-behind : (n w : ℕ) (words : List ℕ) (wrong : Wrong) (place : ℕ) → isSound w ≡ true → FirstUnsound (suc n) words wrong place
+    → FirstUnsound n (w ∷ words) wrong place
+first-behind n w words wrong place s f = record { before = suc (f .before); number = omega (arith, f .number); within = omega (arith, f .within); here = f .here; earlier = earlier }
   where
-    before : (i : ℕ) → i < suc k → isSound (getD (w ∷ words) i 0) ≡ true
-    before zero h = s
-    before (suc i) h = f .earlier i (le-of-suc-le-suc h)
+    earlier : (i : ℕ) → i < suc (f .before) → isSound (getD (w ∷ words) i 0) ≡ true
+    earlier zero h = s
+    earlier (suc i) h = f .earlier i (le-of-suc-le-suc h)
 
-first-tail : (w : ℕ) (words : List ℕ) (wrong : Wrong) (k : ℕ) → FirstAt (w ∷ words) wrong (suc k) → FirstAt words wrong k
-first-tail w words wrong k f = record { within = le-of-suc-le-suc (f .within); here = f .here; earlier = λ i h. f .earlier (suc i) (omega arith) }
-
--- there, and nowhere else, 7 is given, and says what is wrong with it
-pub unsound-at : (n : ℕ) (words : List ℕ) (wrong : Wrong) (k : ℕ) → FirstAt words wrong k → unsoundFrom n words ≡ some (refusalAt (Parity wrong) (n + k))
+-- 7 is given at it, and says what is wrong with it
+gives-first : (n : ℕ) (words : List ℕ) (wrong : Wrong) (place k : ℕ) → place ≡ n + k → k < length words → soundnessOf (getD words k 0) ≡ Unsound wrong
+    → ((i : ℕ) → i < k → isSound (getD words i 0) ≡ true) → unsoundFrom n words ≡ some (refusalAt (Parity wrong) place)
 unfolding unsoundFrom
-unsound-at n [] wrong k f = absurd (not-suc-le-zero (f .within))
-unsound-at n (w ∷ words) wrong zero f =
-    ap (λ (s : Soundness). next (refusedAt n s) (unsoundFrom (suc n) words)) (f .here) ∙ ap (λ (m : ℕ). some (refusalAt (Parity wrong) m)) (omega arith)
-unsound-at n (w ∷ words) wrong (suc k) f =
-    ap (λ (s : Soundness). next (refusedAt n s) (unsoundFrom (suc n) words)) (sound-checked w (f .earlier 0 (omega arith)))
-    ∙ unsound-at (suc n) words wrong k (first-tail w words wrong k f) ∙ ap (λ (m : ℕ). some (refusalAt (Parity wrong) m)) (omega arith)
+gives-first n [] wrong place k p h e before = absurd (not-suc-le-zero h)
+gives-first n (w ∷ words) wrong place zero p h e before =
+    let same : n ≡ place = omega arith in
+    ap (λ (s : Soundness). next (wordRefusal n s) (unsoundFrom (suc n) words)) e ∙ ap (λ (m : ℕ). some (refusalAt (Parity wrong) m)) same
+gives-first n (w ∷ words) wrong place (suc k) p h e before =
+    ap (λ (s : Soundness). next (wordRefusal n s) (unsoundFrom (suc n) words)) (sound-checked w (before 0 (omega arith)))
+    ∙ gives-first (suc n) words wrong place k (omega arith) (le-of-suc-le-suc h) e (λ i l. before (suc i) (omega arith))
 
-pub at-unsound : (n : ℕ) (words : List ℕ) (wrong : Wrong) (place : ℕ) → unsoundFrom n words ≡ some (refusalAt (Parity wrong) place)
-    → (k : ℕ) × (place ≡ n + k) × FirstAt words wrong k
+-- and nowhere else
+first-given : (n : ℕ) (words : List ℕ) (wrong : Wrong) (place : ℕ) → unsoundFrom n words ≡ some (refusalAt (Parity wrong) place) → FirstUnsound n words wrong place
 unfolding unsoundFrom
-at-unsound n [] wrong place e = absurd (passed-other _ e)
-at-unsound n (w ∷ words) wrong place e = by (soundnessOf w) refl (at-unsound (suc n) words wrong place) e
+first-given n [] wrong place e = absurd (passed-other _ e)
+first-given n (w ∷ words) wrong place e = by (soundnessOf w) refl (first-given (suc n) words wrong place) e
   where
-    by : (s : Soundness) → soundnessOf w ≡ s
-        → (unsoundFrom (suc n) words ≡ some (refusalAt (Parity wrong) place) → (k : ℕ) × (place ≡ suc n + k) × FirstAt words wrong k)
-        → next (refusedAt n s) (unsoundFrom (suc n) words) ≡ some (refusalAt (Parity wrong) place) → (k : ℕ) × (place ≡ n + k) × FirstAt (w ∷ words) wrong k
-    by Sound d later e =
-        let (k, p, f) = later e in
-        (suc k, p ∙ omega arith, first-behind w words wrong k (checked-sound w d) f)
+    by : (s : Soundness) → soundnessOf w ≡ s → (unsoundFrom (suc n) words ≡ some (refusalAt (Parity wrong) place) → FirstUnsound (suc n) words wrong place)
+        → next (wordRefusal n s) (unsoundFrom (suc n) words) ≡ some (refusalAt (Parity wrong) place) → FirstUnsound n (w ∷ words) wrong place
+    by Sound d later e = first-behind n w words wrong place (checked-sound w d) (later e)
     by (Unsound other) d later e =
         let whole : refusalAt (Parity other) n ≡ refusalAt (Parity wrong) place = cc in
         let reason : Parity other ≡ Parity wrong = ap (λ (r : Refusal). r .reason) whole in
         let same : other ≡ wrong = cc in
-        (0, sym (ap (λ (r : Refusal). r .place) whole) ∙ omega arith, first-head w words wrong (d ∙ ap Unsound same))
+        let there : n ≡ place = ap (λ (r : Refusal). r .place) whole in
+        subst (FirstUnsound n (w ∷ words) wrong) there (first-head n w words wrong (d ∙ ap Unsound same))
     by (Refused no′) d later e =
         let same : no′ ≡ refusalAt (Parity wrong) place = cc in
-        absurd (never-wide wrong place (sym same ∙ refused-wide w no′ d))
+        absurd (seven-not-two wrong place (sym same ∙ refused-wide w no′ d))
+
+pub first-exactly : (n : ℕ) (words : List ℕ) (wrong : Wrong) (place : ℕ) → (unsoundFrom n words ≡ some (refusalAt (Parity wrong) place)) ↔ FirstUnsound n words wrong place
+first-exactly n words wrong place =
+    (first-given n words wrong place, λ F. gives-first n words wrong place (F .before) (F .number) (F .within) (F .here) (F .earlier))
 
 -- of words of ten bits that are not all sound there is a first
 pub unsound-found : (n : ℕ) (words : List ℕ) → narrow words ≡ true → all isSound words ≡ false
@@ -137,19 +133,10 @@ unsound-found n (w ∷ words) t f =
   where
     by : (s : Soundness) → soundnessOf w ≡ s → w ≤ 1023
         → (all isSound words ≡ false → (wrong : Wrong) × (place : ℕ) × (unsoundFrom (suc n) words ≡ some (refusalAt (Parity wrong) place)))
-        → (wrong : Wrong) × (place : ℕ) × (next (refusedAt n s) (unsoundFrom (suc n) words) ≡ some (refusalAt (Parity wrong) place))
+        → (wrong : Wrong) × (place : ℕ) × (next (wordRefusal n s) (unsoundFrom (suc n) words) ≡ some (refusalAt (Parity wrong) place))
     by Sound d h later = later (sym (ap (λ (b : Bool). b && all isSound words) (checked-sound w d)) ∙ f)
     by (Unsound wrong) d h later = (wrong, n, refl)
-    by (Refused why) d h later = absurd (wide-never w why h d)
-
--- numbered from 1: 7 is given exactly at the first word that is not sound, and says what is wrong with it
-pub first-exactly : (words : List ℕ) (wrong : Wrong) (place : ℕ) → (unsoundFrom 1 words ≡ some (refusalAt (Parity wrong) place)) ↔ FirstUnsound words wrong place
-first-exactly words wrong place = (
-  λ e. let (k, p, f) = at-unsound 1 words wrong place e in
-      record { before = k; number = p ∙ omega arith; within = f .within; here = f .here; earlier = f .earlier },
-  λ F. unsound-at 1 words wrong (F .before) (record { within = F .within; here = F .here; earlier = F .earlier })
-      ∙ ap (λ (m : ℕ). some (refusalAt (Parity wrong) m)) (omega (arith, F .number)),
-)
+    by (Refused why) d h later = absurd (narrow-unrefused w why h d)
 
 -- ---- up to 255 of them
 
@@ -175,7 +162,7 @@ module _ (words : List ℕ) where
 
   module _ (i : ℕ) (found : Checked) (p : Walked words i found) where
     abbrev here : Option Refusal
-    here = refusedAt (i + 1) (soundnessOf (getD words i 0))
+    here = wordRefusal (i + 1) (soundnessOf (getD words i 0))
 
     abbrev later : Option Refusal
     later = unsoundFrom (i + 1 + 1) (drop (i + 1) words)

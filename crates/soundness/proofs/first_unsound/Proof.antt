@@ -19,15 +19,15 @@ abbrev μ-loop : tie.MeasureT-loop
 loop-holds : tie.Need-loop-holds Inv-loop μ-loop
 loop-holds c = walked-none (c .before .args .words .now)
 
-cast-refused-at : tie.Need-cast-refused-at Inv-loop μ-loop
-cast-refused-at c = omega (arith, c .before .before .before .pre)
+cast-word-refusal : tie.Need-cast-word-refusal Inv-loop μ-loop
+cast-word-refusal c = omega (arith, c .before .before .before .pre)
 
 loop-again : tie.Need-loop-again Inv-loop μ-loop
 loop-again c =
     let r = c .before in
     let l = r .before .before .before .loop in
     let ws : List ℕ = r .before .before .before .before .before .args .words .now in
-    walked-more ws (l .i) (l .found) (l .inv) (omega arith) _ _ (r .refused-at .ensures) (c .next .ensures)
+    walked-more ws (l .i) (l .found) (l .inv) (omega arith) _ _ (r .word-refusal .ensures) (c .next .ensures)
 
 returns : tie.Need-returns Inv-loop μ-loop
 returns c =
@@ -42,7 +42,7 @@ first-unsound-spec =
     μ-loop
     loop-holds
     (λ c. search needs)
-    cast-refused-at
+    cast-word-refusal
     (λ c. search needs)
     (λ c. search needs)
     (λ c κs. search needs)

@@ -3,8 +3,10 @@
 use mathlib.Core.Path.{sym, ap, _∙_}
 use mathlib.Core.List.{List}
 use Prim.Native.Nat.{ℕ}
+use native.Mathlib.Omega.{arith}
 use borrow.Author.Needs.{needs}
 use Rattle.basics.specs.Each.{all}
+use Rattle.basics.proofs.Laws.Parts.{take-most}
 use Rattle.soundness.specs.Check.{unsoundFrom}
 use Rattle.anc.proofs.Laws.Words.{low-filled}
 use Rattle.soundness.proofs.Laws.Run.{words-few}
@@ -14,7 +16,7 @@ use Rattle.refusal.specs.declared.Reason.the-variants.{Fill}
 use Rattle.refusal.proofs.Laws.Chain.{chained-from, chained-more, chained-all}
 use Rattle.rs.specs.Decode.{repaired, decodeRefusal}
 use Rattle.reading.specs.Reading.{isFill, dataWords}
-use Rattle.reading.proofs.Laws.Reader.{repair-decides, guarded-off, bytes-on, bytes-off, few-data, last-six}
+use Rattle.reading.proofs.Laws.Reader.{repair-decides, guarded-off, bytes-on, bytes-off, last-six}
 use Rattle.reading.proofs.reader.read_bytes.Statement.{statement}
 use Rattle.reading.proofs.reader.read_bytes.Tie as tie
 
@@ -39,7 +41,7 @@ returns-2 c =
     let s = b .before .before .before .before in
     let ws : List ℕ = s .args .words .now in
     let low = low-filled _ ws _ (b .low-bytes .ensures .1) (s .pre .0 ∙ sym (s .pre .1)) in
-    let c1 = chained-from (unsoundFrom 1 (dataWords ws)) (k .check-words .ensures ∙ ap checkedOf (words-few (dataWords ws) (few-data ws (s .pre .0)))) in
+    let c1 = chained-from (unsoundFrom 1 (dataWords ws)) (k .check-words .ensures ∙ ap checkedOf (words-few (dataWords ws) (omega (arith, take-most 248 ws)))) in
     let c2 = chained-more (refusalPlain Fill) c1 (c .then .ensures) (f .all-fill .ensures ∙ ap (all isFill) (last-six ws (s .pre .0))) in
     (chained-all c2 ∙ ap checkedOf (sym (guarded-off _ ws (e .if1 .left))), low ∙ bytes-off _ ws (e .if1 .left))
 

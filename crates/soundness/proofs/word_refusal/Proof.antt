@@ -1,4 +1,4 @@
--- `soundness::refused_at` meets its contract: each answer of the word check is one case of the definition.
+-- `soundness::word_refusal` meets its contract: each answer of the word check is one case of the definition.
 -- Assumes nothing.
 use mathlib.Core.Path.{_≡_, sym, ap, _∙_}
 use Prim.Native.Nat.{ℕ}
@@ -6,13 +6,13 @@ use borrow.Author.Needs.{needs}
 use Rattle.refusal.specs.Checked.{checkedOf}
 use Rattle.refusal.specs.declared.Checked.the-variants.{Refused}
 use Rattle.soundness.specs.declared.Soundness.{Soundness}
-use Rattle.soundness.specs.Check.{soundnessOf, refusedAt}
-use Rattle.soundness.proofs.refused_at.Statement.{statement}
-use Rattle.soundness.proofs.refused_at.Tie as tie
+use Rattle.soundness.specs.Check.{soundnessOf, wordRefusal}
+use Rattle.soundness.proofs.word_refusal.Statement.{statement}
+use Rattle.soundness.proofs.word_refusal.Tie as tie
 
 -- what the check answered, and what it turned out to be
-by-answer : (n word : ℕ) (a b : Soundness) → a ≡ soundnessOf word → a ≡ b → checkedOf (refusedAt n b) ≡ checkedOf (refusedAt n (soundnessOf word))
-by-answer n word a b e d = ap (λ (s : Soundness). checkedOf (refusedAt n s)) (sym d ∙ e)
+by-answer : (n word : ℕ) (a b : Soundness) → a ≡ soundnessOf word → a ≡ b → checkedOf (wordRefusal n b) ≡ checkedOf (wordRefusal n (soundnessOf word))
+by-answer n word a b e d = ap (λ (s : Soundness). checkedOf (wordRefusal n s)) (sym d ∙ e)
 
 returns : tie.Need-returns
 returns c = let k = c .before .before in by-answer (k .before .args .number) (k .before .args .word) _ _ (k .check-word .ensures) (c .enum-told .given .1)
@@ -29,8 +29,8 @@ returns-3 c =
     let k = t .before .before in
     by-answer (k .before .args .number) (k .before .args .word) _ _ (k .check-word .ensures) (t .soundness2 .given .1)
 
-pub refused-at-spec : {M : Type 1} → statement M
-refused-at-spec =
+pub word-refusal-spec : {M : Type 1} → statement M
+word-refusal-spec =
     tie.close
     (tie.spec
     (λ c κs. search needs)
