@@ -1,11 +1,12 @@
 // The long division by the divisor, a look-up for each byte. A remainder of six bytes is packed into a number, its first byte
 // lowest, and a table holds the 256 multiples of the divisor so packed. The table is filled at each call, since a constant array is
-// built anew at each use.
+// built anew at each use. The product with x plus a root, which makes the divisor, doubles as the rows of the table do and stands here too.
 ghost use mathlib.Core.Path.{_≡_};
+ghost use mathlib.Core.List.{[], _∷_};
 ghost use Prim.Native.Nat.{_%_, _<_, _≤_};
 ghost use lib.ListN.{length, take, drop};
-ghost use Rattle.gf256.specs.Field.{_⊕_, _⊗_};
-ghost use Rattle.rs.specs.Polynomial.{_⊞_, scale};
+ghost use Rattle.gf256.specs.Field.{_⊕_, _⊗_, pow};
+ghost use Rattle.rs.specs.Polynomial.{_⊞_, scale, _⊠_};
 ghost use Rattle.rs.specs.Codeword.{divisorBytes, parityOf};
 ghost use Rattle.rs.specs.Packed.{pack as packed, unpack as unpacked, turn as turned, Multiples, Extended};
 
@@ -58,6 +59,28 @@ fn doubled(g: [u8; 6]) -> [u8; 6]
         twice(g[3]),
         twice(g[4]),
         twice(g[5]),
+    ]
+}
+
+// A polynomial times x + 2^j, which gives it the root 2^j: itself a power higher, plus 2^j times itself. The six low coefficients of the
+// product stay.
+pub(crate) fn with_root(p: [u8; 6], j: usize) -> [u8; 6]
+    ensures { λ r. ⌜ r ≡ drop 1 (p ⊠ (1 ∷ pow 2 j ∷ [])) ⌝ }
+{
+    let mut scaled = p;
+    let mut k = 0;
+    while k < j {
+        let next = doubled(scaled);
+        scaled = next;
+        k += 1;
+    }
+    [
+        p[1] ^ scaled[0],
+        p[2] ^ scaled[1],
+        p[3] ^ scaled[2],
+        p[4] ^ scaled[3],
+        p[5] ^ scaled[4],
+        scaled[5],
     ]
 }
 

@@ -8,11 +8,20 @@ ghost use Rattle.rs.specs.Codeword.{divisorBytes, parityOf, dividedOf};
 use refusal::Checked;
 use refusal::Reason;
 
-// The coefficients of the divisor G, from that of x^5 down; that of x^6 is 1.
+// The coefficients of the divisor G, from that of x^5 down; that of x^6 is 1. They are worked out from the roots of G, the powers 0 to 5
+// of 2: the product starts as 1 and is multiplied by x + 2^j for each j. After two turns it is (x + 1)(x + 2) = x^2 + 3x + 2; in the
+// sixth the 1 of x^6 falls off.
 pub fn divisor() -> [u8; 6]
     ensures { λ r. ⌜ r ≡ divisorBytes ⌝ }
 {
-    [0x3F, 0x01, 0xDA, 0x20, 0xE3, 0x26]
+    let mut product = [0u8, 0, 0, 0, 0, 1];
+    let mut j = 0;
+    while j < 6 {
+        let next = division::with_root(product, j);
+        product = next;
+        j += 1;
+    }
+    product
 }
 
 // The parity of any number of data bytes; 248 of them with their parity are a codeword.

@@ -169,12 +169,12 @@ twice-large a f h =
 
 -- ---- the rows 2^k g
 
-scale-scale : (a b : ℕ) (l : List ℕ) → scale a (scale b l) ≡ scale (a ⊗ b) l
+pub scale-scale : (a b : ℕ) (l : List ℕ) → scale a (scale b l) ≡ scale (a ⊗ b) l
 unfolding scale
 scale-scale a b [] = refl
 scale-scale a b (c ∷ l) = ap₂ (λ (x : ℕ) (y : List ℕ). x ∷ y) (sym (⊗-assoc a b c)) (scale-scale a b l)
 
-scale-one : (l : List ℕ) → Bytes l → scale 1 l ≡ l
+pub scale-one : (l : List ℕ) → Bytes l → scale 1 l ≡ l
 unfolding scale
 scale-one [] x = refl
 scale-one (c ∷ l) x = ap₂ (λ (y : ℕ) (z : List ℕ). y ∷ z) (⊗-one-l c (x .0)) (scale-one l (x .1))

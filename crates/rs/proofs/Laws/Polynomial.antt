@@ -10,7 +10,7 @@ use lib.Dec.{lit<}
 use lib.ListN.{length, getD, length-append, length-replicate}
 use Rattle.gf256.specs.Field.{_⊕_, _⊗_, pow}
 use Rattle.gf256.proofs.Laws.Sum.{⊕-assoc, ⊕-comm, ⊕-self, ⊕-zero-l, ⊕-zero-r, ⊕-four, ⊕-lt}
-use Rattle.gf256.proofs.Laws.Product.{⊗-lt, ⊗-assoc, ⊗-⊕-l, ⊗-⊕-r, ⊗-zero-l, ⊗-zero-r, ⊗-one-r, pow-add}
+use Rattle.gf256.proofs.Laws.Product.{⊗-lt, ⊗-comm, ⊗-assoc, ⊗-⊕-l, ⊗-⊕-r, ⊗-zero-l, ⊗-zero-r, ⊗-one-r, pow-add}
 use Rattle.gf256.proofs.Laws.Ring.{ring}
 use Rattle.rs.specs.Polynomial.{valueAt, _⊞_, scale, zeros, _⊠_}
 use Rattle.basics.specs.Below.{Bytes}
@@ -162,6 +162,18 @@ value-⊠ x (q ∷ qs) g h =
     ∙ ap₂ _⊕_ (value-moved x (length qs) (scale q g) ∙ ap (λ (z : ℕ). z ⊗ pow x (length qs)) (value-scale x q g))
     (value-above x 1 (qs ⊠ g) ∙ value-⊠ x qs g h)
     ∙ product-ring q (pow x (length qs)) (valueAt x qs) (valueAt x g)
+
+-- times x + r: itself a power higher, plus r times itself
+pub times-root : (r : ℕ) (p : List ℕ) → Bytes p → p ⊠ (1 ∷ r ∷ []) ≡ (p ++ (0 ∷ [])) ⊞ (0 ∷ scale r p)
+unfolding _⊠_ _⊞_ scale
+times-root r [] x = ap (λ (a : ℕ). a ∷ []) (sym (⊕-self 0))
+times-root r (q ∷ qs) x =
+    let low : List ℕ = qs ++ (0 ∷ []) in
+    let one : List ℕ = q ⊗ r ∷ zeros (length qs) in
+    let z : zeros (length qs) ⊞ scale r qs ≡ scale r qs = ap (λ (n : ℕ). zeros n ⊞ scale r qs) (sym (length-scale r qs)) ∙ ⊞-zeros-l (scale r qs) in
+    ap₂ (λ (a : ℕ) (l : List ℕ). a ⊕ 0 ∷ l) (⊗-one-r q (x .0))
+    (ap (_⊞_ one) (times-root r qs (x .1) ∙ ⊞-comm low (0 ∷ scale r qs)) ∙ sym (⊞-assoc one (0 ∷ scale r qs) low)
+    ∙ ⊞-comm (one ⊞ (0 ∷ scale r qs)) low ∙ ap₂ (λ (a : ℕ) (l : List ℕ). low ⊞ (a ∷ l)) (⊕-zero-r (q ⊗ r) ∙ ⊗-comm q r) z)
 
 horner-ring : (x d v : ℕ) → d ⊕ x ⊗ v ≡ v ⊗ x ⊕ d
 horner-ring x d v = simp ring
