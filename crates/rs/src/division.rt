@@ -1,6 +1,7 @@
 // The long division by the divisor, a look-up for each byte. A remainder of six bytes is packed into a number, its first byte
 // lowest, and a table holds the 256 multiples of the divisor so packed. The table is filled at each call, since a constant array is
-// built anew at each use. The product with x plus a root, which makes the divisor, doubles as the rows of the table do and stands here too.
+// built anew at each use. The product with x plus a root, of which the divisor is made, doubles as the rows of the table do, so it
+// stands here too.
 ghost use mathlib.Core.Path.{_≡_};
 ghost use mathlib.Core.List.{[], _∷_};
 ghost use Prim.Native.Nat.{_%_, _<_, _≤_};

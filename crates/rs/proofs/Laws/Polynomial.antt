@@ -168,12 +168,14 @@ pub times-root : (r : ℕ) (p : List ℕ) → Bytes p → p ⊠ (1 ∷ r ∷ [])
 unfolding _⊠_ _⊞_ scale
 times-root r [] x = ap (λ (a : ℕ). a ∷ []) (sym (⊕-self 0))
 times-root r (q ∷ qs) x =
-    let low : List ℕ = qs ++ (0 ∷ []) in
-    let one : List ℕ = q ⊗ r ∷ zeros (length qs) in
-    let z : zeros (length qs) ⊞ scale r qs ≡ scale r qs = ap (λ (n : ℕ). zeros n ⊞ scale r qs) (sym (length-scale r qs)) ∙ ⊞-zeros-l (scale r qs) in
+    let up : List ℕ = qs ++ (0 ∷ []) in
+    let s : List ℕ = scale r qs in
+    let n : ℕ = length qs in
+    let one : List ℕ = q ⊗ r ∷ zeros n in
+    let z : zeros n ⊞ s ≡ s = ap (λ (k : ℕ). zeros k ⊞ s) (sym (length-scale r qs)) ∙ ⊞-zeros-l s in
     ap₂ (λ (a : ℕ) (l : List ℕ). a ⊕ 0 ∷ l) (⊗-one-r q (x .0))
-    (ap (_⊞_ one) (times-root r qs (x .1) ∙ ⊞-comm low (0 ∷ scale r qs)) ∙ sym (⊞-assoc one (0 ∷ scale r qs) low)
-    ∙ ⊞-comm (one ⊞ (0 ∷ scale r qs)) low ∙ ap₂ (λ (a : ℕ) (l : List ℕ). low ⊞ (a ∷ l)) (⊕-zero-r (q ⊗ r) ∙ ⊗-comm q r) z)
+    (ap (_⊞_ one) (times-root r qs (x .1) ∙ ⊞-comm up (0 ∷ s)) ∙ sym (⊞-assoc one (0 ∷ s) up) ∙ ⊞-comm (one ⊞ (0 ∷ s)) up
+    ∙ ap₂ (λ (a : ℕ) (l : List ℕ). up ⊞ (a ∷ l)) (⊕-zero-r (q ⊗ r) ∙ ⊗-comm q r) z)
 
 horner-ring : (x d v : ℕ) → d ⊕ x ⊗ v ≡ v ⊗ x ⊕ d
 horner-ring x d v = simp ring

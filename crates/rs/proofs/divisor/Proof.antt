@@ -1,9 +1,9 @@
--- `rs::divisor` meets its contract: after j turns the product has the roots 2^0 to 2^(j - 1), and after six it is G without its x^6.
+-- `rs::divisor` meets its contract: before each turn, what the turns to come make of the product is G without its x^6.
 -- Assumes nothing.
 use borrow.Author.Needs.{needs}
-use mathlib.Core.Path.{_≡_, refl, sym, ap, _∙_}
+use mathlib.Core.Path.{_≡_, refl, ap, _∙_}
 use mathlib.Core.List.{List, [], _∷_}
-use Prim.Native.Nat.{ℕ, zero, suc, _-_, _≤_}
+use Prim.Native.Nat.{ℕ, zero, suc, _+_, _-_, _≤_}
 use native.Mathlib.Omega.{arith}
 use native.Mathlib.Numerals.{add-one}
 use lib.ListN.{drop}
@@ -13,35 +13,53 @@ use Rattle.rs.specs.Codeword.{divisorBytes}
 use Rattle.rs.proofs.divisor.Statement.{statement}
 use Rattle.rs.proofs.divisor.Tie as tie
 
--- the six low coefficients of the product of the x + 2^i, i below j
-product : ℕ → List ℕ
-product zero = 0 ∷ 0 ∷ 0 ∷ 0 ∷ 0 ∷ 1 ∷ []
-product (suc j) = drop 1 (product j ⊠ (1 ∷ pow 2 j ∷ []))
+-- what n turns make of p, the first of them with the root 2^j
+turns : ℕ → ℕ → List ℕ → List ℕ
+turns zero j p = p
+turns (suc n) j p = turns n (suc j) (drop 1 (p ⊠ (1 ∷ pow 2 j ∷ [])))
 
-six-roots : product 6 ≡ divisorBytes
-unfolding product divisorBytes _⊠_ _⊞_ scale pow _⊗_ byBits double _⊕_
-six-roots = refl
+-- the power at which the loop ends
+abbrev end : ℕ
+end = 6
 
 abbrev Inv-loop : tie.InvT-loop
-Inv-loop product₀ j₀ made j = (made ≡ product j) × (j ≤ 6)
+Inv-loop product₀ j₀ product j = (turns (end - j) j product ≡ divisorBytes) × (j ≤ end)
 
 abbrev μ-loop : tie.MeasureT-loop
-μ-loop product₀ j₀ made j = 6 - j
+μ-loop product₀ j₀ product j = end - j
 
 loop-holds : tie.Need-loop-holds Inv-loop μ-loop
-unfolding product
+unfolding turns divisorBytes _⊠_ _⊞_ scale pow _⊗_ byBits double _⊕_
 loop-holds c = (refl, omega arith)
 
 loop-again : tie.Need-loop-again Inv-loop μ-loop
-unfolding product
+unfolding turns
 loop-again c =
     let loop = c .before .before .loop in
-    (c .with-root .ensures ∙ ap (λ (p : List ℕ). drop 1 (p ⊠ (1 ∷ pow 2 (loop .j) ∷ []))) (loop .inv .0) ∙ ap product (sym (add-one (loop .j))), search needs)
+    let j : ℕ = loop .j in
+    let n : ℕ = end - (j + 1) in
+    let one-more : suc n ≡ end - j = omega arith in
+    let next : List ℕ = drop 1 (loop .product ⊠ (1 ∷ pow 2 j ∷ [])) in
+    let made : turns n (j + 1) next ≡ divisorBytes =
+    ap (λ (i : ℕ). turns n i next) (add-one j) ∙ ap (λ (m : ℕ). turns m j (loop .product)) one-more ∙ loop .inv .0 in
+    (ap (turns n (j + 1)) (c .with-root .ensures) ∙ made, search needs)
 
 returns : tie.Need-returns Inv-loop μ-loop
+unfolding turns
 returns c =
-    let end : c .before .loop .j ≡ 6 = omega arith in
-    c .before .loop .inv .0 ∙ ap product end ∙ six-roots
+    let loop = c .before .loop in
+    let none : 0 ≡ end - loop .j = omega arith in
+    ap (λ (m : ℕ). turns m (loop .j) (loop .product)) none ∙ loop .inv .0
 
 pub divisor-spec : {M : Type 1} → statement M
-divisor-spec = tie.close (tie.spec Inv-loop μ-loop loop-holds (λ c κs. search needs) (λ c. search needs) (λ c. search needs) loop-again returns)
+divisor-spec =
+    tie.close
+    (tie.spec
+    Inv-loop
+    μ-loop
+    loop-holds
+    (λ c κs. search needs)
+    (λ c. search needs)
+    (λ c. search needs)
+    loop-again
+    returns)

@@ -15,7 +15,7 @@ use Rattle.basics.proofs.Laws.Below.{at-below}
 use Rattle.basics.proofs.Laws.Parts.{all-entries}
 use Rattle.gf256.specs.Field.{_⊕_, pow}
 use Rattle.gf256.proofs.Laws.Sum.{⊕-zero-l}
-use Rattle.rs.specs.Polynomial.{_⊞_, scale, _⊠_}
+use Rattle.rs.specs.Polynomial.{_⊞_, scale}
 use Rattle.rs.proofs.Laws.Polynomial.{length-scale, times-root}
 use Rattle.rs.proofs.Laws.Packed.{scale-scale, scale-one}
 use Rattle.rs.proofs.division.with_root.Statement.{statement}
@@ -43,11 +43,23 @@ loop-again c =
     (c .doubled .ensures ∙ ap (scale 2) (loop .inv .0) ∙ more, search needs)
 
 -- the six low coefficients of x p + s
-sum : List ℕ → List ℕ → List ℕ
+abbrev sum : List ℕ → List ℕ → List ℕ
 sum p s = drop 1 ((p ++ (0 ∷ [])) ⊞ (0 ∷ s))
 
+one-by-one : (p s : List ℕ) → length p ≡ 6 → length s ≡ 6
+    → getD p 1 0 ⊕ getD s 0 0
+    ∷ getD p 2 0 ⊕ getD s 1 0
+    ∷ getD p 3 0 ⊕ getD s 2 0
+    ∷ getD p 4 0 ⊕ getD s 3 0
+    ∷ getD p 5 0 ⊕ getD s 4 0
+    ∷ getD s 5 0
+    ∷ []
+    ≡ sum p s
+unfolding _⊞_
+one-by-one p s m n = cc (⊕-zero-l (getD s 5 0), ap₂ sum (all-entries 6 p m) (all-entries 6 s n))
+
 returns : tie.Need-returns Inv-loop μ-loop
-unfolding _⊕_ _⊞_ sum
+unfolding _⊕_
 returns c =
     let p : List ℕ = c .before .before .args .t1 in
     let s : List ℕ = c .before .loop .scaled in
@@ -55,10 +67,8 @@ returns c =
     let end : c .before .loop .k ≡ j = omega arith in
     let scaled : s ≡ scale (pow 2 j) p = c .before .loop .inv .0 ∙ ap (λ (n : ℕ). scale (pow 2 n) p) end in
     let six : length p ≡ 6 = search needs in
-    let as-long : length s ≡ 6 = ap length scaled ∙ length-scale _ p ∙ six in
-    let product : sum p s ≡ drop 1 (p ⊠ (1 ∷ pow 2 j ∷ [])) =
-    ap (sum p) scaled ∙ ap (drop 1) (sym (times-root (pow 2 j) p (bytes p (λ i. search needs)))) in
-    cc (⊕-zero-l (getD s 5 0), ap₂ sum (all-entries 6 p six) (all-entries 6 s as-long), product)
+    one-by-one p s six (ap length scaled ∙ length-scale _ p ∙ six)
+    ∙ ap (sum p) scaled ∙ ap (drop 1) (sym (times-root (pow 2 j) p (bytes p (λ i. search needs))))
 
 pub with-root-spec : {M : Type 1} → statement M
 with-root-spec =
