@@ -102,6 +102,13 @@ typedef struct {
     uint8_t bits;
 } AyWord;
 
+/* Are the bytes a codeword? false where they are none, or refused. */
+typedef struct {
+    uint8_t number;
+    uint8_t place;
+    bool codeword;
+} AyVerdict;
+
 /* The accepted packet: is correction on, its index CI, and how many protected words' ten bits changed. With 7, which bits of the word at the
  * place are wrong, else AY_NO_BIT. */
 typedef struct {
@@ -201,6 +208,10 @@ AyPacket ay_read_packet_into(const uint16_t *words, size_t words_len, uint8_t *o
 
 /* Leaves in out the 254 sound words of the codeword that the protected words are within three bytes of. Refuses 21, 2, 9, 23. */
 AyRepaired ay_repair(const uint16_t *words, size_t words_len, uint16_t *out, size_t out_len);
+
+/* The check of a receiver that never repairs: says whether 254 bytes, which the protected words carry as their low bytes, are a codeword. With one
+ * to six bytes changed in any way a codeword is none; with seven it may be another. Refuses 21. */
+AyVerdict ay_check_codeword(const uint8_t *block, size_t block_len);
 
 /* Says what 248 bytes are refused for as a record. Refuses 21, 11 to 14. */
 AyAnswer ay_record_refusal(const uint8_t *bytes, size_t bytes_len);

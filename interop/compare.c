@@ -1,6 +1,7 @@
 /* Compares the archive with libfec, with a check of our own, and with GStreamer's encoder of ancillary data:
  *   - deliveries of 254 words: clean, with one to eight changed bytes, with wrong upper bits, and junk; repair must give exactly what the check
- *     finds, and agree with libfec wherever libfec gives a codeword within three bytes or gives up;
+ *     finds, and agree with libfec wherever libfec gives a codeword within three bytes or gives up; and the check of a codeword must say yes
+ *     exactly where our six sums are 0 and libfec finds nothing to change;
  *   - packets: the 262 words of random records must be those of GStreamer's encoder, and must read back;
  *   - every number of 16 bits through the word check, and packets with correction off in which upper bits are wrong: what is wrong, and of which
  *     word, must be as counted here.
@@ -203,6 +204,9 @@ static void delivery(long n)
     int claim = count >= 0 && !sums(theirs, s) && apart(theirs, block) <= 3;
     if (claim != good || (good && memcmp(theirs, ours, BLOCK)))
         fail("libfec", n);
+    AyVerdict v = ay_check_codeword(block, BLOCK);
+    if (v.number != AY_DONE || v.place || v.codeword != !sums(block, s) || v.codeword != (count == 0))
+        fail("the check of a codeword", n);
 }
 
 /* ---- packets */

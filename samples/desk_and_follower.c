@@ -11,6 +11,7 @@
 
 /* The layouts are those of the Rattle structs, which have them by C's rules. */
 typedef char word_is_3_bytes[sizeof(AyWord) == 3 ? 1 : -1];
+typedef char verdict_is_3_bytes[sizeof(AyVerdict) == 3 ? 1 : -1];
 typedef char packet_is_6_bytes[sizeof(AyPacket) == 6 ? 1 : -1];
 typedef char desk_is_571_bytes[sizeof(AyDesk) == 571 ? 1 : -1];
 typedef char turn_is_573_bytes[sizeof(AyTurn) == 573 ? 1 : -1];
@@ -112,6 +113,35 @@ static void readings(const AyDesk *desk, const uint16_t *sent, const uint16_t *d
     expect("correction of 261 words", packet.correction, false);
 }
 
+/* A receiver that checks and never repairs: the bytes of the protected words as they were sent, six of them changed, and seven changed so that
+ * they make another codeword. */
+static void checks(const uint16_t *sent)
+{
+    const uint8_t divisor[7] = { 0x01, 0x3F, 0x01, 0xDA, 0x20, 0xE3, 0x26 };
+    uint8_t block[AY_PROTECTED_WORDS], changed[AY_PROTECTED_WORDS];
+    for (int i = 0; i < AY_PROTECTED_WORDS; i++)
+        block[i] = (uint8_t) (sent[7 + i] & 0xFF);
+    AyVerdict verdict = ay_check_codeword(block, AY_PROTECTED_WORDS);
+    expect("number of the check", verdict.number, AY_DONE);
+    expect("what was sent is a codeword", verdict.codeword, true);
+
+    memcpy(changed, block, sizeof(block));
+    for (int i = 0; i < 6; i++)
+        changed[50 * i + 3] ^= (uint8_t) (i + 1);
+    verdict = ay_check_codeword(changed, AY_PROTECTED_WORDS);
+    printf("six bytes changed: codeword %d\n", verdict.codeword);
+    expect("number of the check, six bytes changed", verdict.number, AY_DONE);
+    expect("a codeword, six bytes changed", verdict.codeword, false);
+
+    memcpy(changed, block, sizeof(block));
+    for (int i = 0; i < 7; i++)
+        changed[247 + i] ^= divisor[i];
+    expect("a codeword, the divisor added", ay_check_codeword(changed, AY_PROTECTED_WORDS).codeword, true);
+    verdict = ay_check_codeword(block, AY_PROTECTED_WORDS - 1);
+    expect("number of the check of 253 bytes", verdict.number, AY_SIZE);
+    expect("a codeword of 253 bytes", verdict.codeword, false);
+}
+
 /* The damaged packet, the same again, one that is refused, and a later one with a trigger set. */
 static void follows(AyDesk desk, const uint16_t *damaged)
 {
@@ -203,6 +233,7 @@ int main(void)
     damaged[17] ^= 0x004;
     damaged[260] = 0;
     readings(&turn.desk, sent, damaged);
+    checks(sent);
     upper_bits(&turn.desk);
     fields(sent);
     follows(turn.desk, damaged);

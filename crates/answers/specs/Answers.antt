@@ -1,7 +1,7 @@
 -- The answers of the crates as plain structs for C: for every case of an answer its number, its place and its values.
 -- Number 0 is done. Beside a refusal, what the call would have given is 0; beside 7 stand the wrong bits of the word.
 -- Assumes nothing.
-use mathlib.Core.Bool.{false}
+use mathlib.Core.Bool.{true, false}
 use mathlib.Core.Option.{Option, none, some}
 use Prim.Native.Nat.{ℕ}
 use Rattle.refusal.specs.Number.{numberOf, bitsOf, bitsIn}
@@ -9,6 +9,8 @@ use Rattle.refusal.specs.declared.Refusal.{Refusal}
 use Rattle.refusal.specs.Checked.{refusalIn}
 use Rattle.soundness.specs.declared.Soundness.{Soundness}
 use Rattle.soundness.specs.declared.Soundness.the-variants.{Sound, Unsound, Refused as RefusedWord}
+use Rattle.rs.specs.declared.Verdict.{Verdict}
+use Rattle.rs.specs.declared.Verdict.the-variants.{Yes, No, Refused as RefusedBlock}
 use Rattle.reading.specs.declared.Reading.{Reading}
 use Rattle.reading.specs.declared.Reading.the-variants.{Accepted, Refused}
 use Rattle.repair.specs.declared.Repaired.{Repaired}
@@ -24,6 +26,7 @@ use Rattle.follower.specs.declared.Heard.the-variants.{Accepted as Arrived, Ref
 use Rattle.follower.specs.declared.Followed.{Followed}
 use Rattle.answers.specs.declared.AyAnswer.{AyAnswer}
 use Rattle.answers.specs.declared.AyWord.{AyWord}
+use Rattle.answers.specs.declared.AyVerdict.{AyVerdict}
 use Rattle.answers.specs.declared.AyPacket.{AyPacket}
 use Rattle.answers.specs.declared.AyRepaired.{AyRepaired}
 use Rattle.answers.specs.declared.AyField.{AyField}
@@ -56,6 +59,14 @@ unfoldable pub wordFrom : Soundness → AyWord
 wordFrom Sound = record { number = 0; place = 0; bits = 0 }
 wordFrom (Unsound wrong) = record { number = 0; place = 0; bits = bitsOf wrong }
 wordFrom (RefusedWord why) = refusedWith why
+
+-- ---- codeword
+
+-- what the check answered: are the bytes a codeword?
+unfoldable pub verdictFrom : Verdict → AyVerdict
+verdictFrom Yes = record { number = 0; place = 0; codeword = true }
+verdictFrom No = record { number = 0; place = 0; codeword = false }
+verdictFrom (RefusedBlock why) = record { number = numberOf (why .reason); place = why .place; codeword = false }
 
 -- ---- packet
 

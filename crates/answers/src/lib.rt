@@ -2,7 +2,7 @@
 ghost use mathlib.Core.Path.{_≡_};
 ghost use Rattle.refusal.specs.Checked.{refusalIn};
 ghost use Rattle.writing.specs.Written.{refusalIn as refusalInWritten};
-ghost use Rattle.answers.specs.Answers.{refusedFor, answerBy, refusedWith, wordFrom, packetFrom, repairedFrom, fieldFrom, turnFrom, kindNumber, followedFrom};
+ghost use Rattle.answers.specs.Answers.{refusedFor, answerBy, refusedWith, wordFrom, verdictFrom, packetFrom, repairedFrom, fieldFrom, turnFrom, kindNumber, followedFrom};
 use desk::Desk;
 use follower::Follower;
 use sequence::Kind;
@@ -22,6 +22,14 @@ pub struct AyWord {
     pub number: u8,
     pub place: u8,
     pub bits: u8,
+}
+
+// The answer, and whether the bytes are a codeword, or false.
+#[repr(C)]
+pub struct AyVerdict {
+    pub number: u8,
+    pub place: u8,
+    pub codeword: bool,
 }
 
 // The answer, with 7 the wrong bits of the word at the place, and the packet that was accepted, or zeros.
@@ -142,6 +150,32 @@ pub fn word(soundness: soundness::Soundness) -> AyWord
             bits: refusal::bits(wrong),
         },
         soundness::Soundness::Refused(why) => refused_with(why),
+    }
+}
+
+// Of the check of a codeword.
+pub fn verdict(verdict: rs::Verdict) -> AyVerdict
+    ensures { λ r. ⌜ r ≡ verdictFrom verdict ⌝ }
+{
+    match verdict {
+        rs::Verdict::Yes => AyVerdict {
+            number: DONE,
+            place: 0,
+            codeword: true,
+        },
+        rs::Verdict::No => AyVerdict {
+            number: DONE,
+            place: 0,
+            codeword: false,
+        },
+        rs::Verdict::Refused(why) => {
+            let answer = refused(why);
+            AyVerdict {
+                number: answer.number,
+                place: answer.place,
+                codeword: false,
+            }
+        }
     }
 }
 

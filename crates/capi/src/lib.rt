@@ -3,6 +3,7 @@ ghost use mathlib.Core.Path.{_≡_};
 ghost use lib.ListN.{length};
 ghost use Rattle.anc.specs.Word.{wordOf, checksumOf};
 ghost use Rattle.soundness.specs.Check.{soundnessOf};
+ghost use Rattle.rs.specs.Check.{verdictOf};
 ghost use Rattle.record.specs.Record.{recordRefusal};
 ghost use Rattle.writing.specs.Writing.{writeRefusal};
 ghost use Rattle.writing.specs.Written.{writeLeaves};
@@ -12,13 +13,14 @@ ghost use Rattle.desk.specs.Desk.{opened, edited, undone, sent, sendLeaves};
 ghost use Rattle.follower.specs.Follower.{followed, opened as nothingArrived};
 ghost use Rattle.b40.specs.Packing.{packRefusal, packLeaves};
 ghost use Rattle.b40.specs.Unpacking.{unpackedOf, unpackLeaves};
-ghost use Rattle.answers.specs.Answers.{answerBy, wordFrom, packetFrom, repairedFrom, fieldFrom, turnFrom, followedFrom};
+ghost use Rattle.answers.specs.Answers.{answerBy, wordFrom, verdictFrom, packetFrom, repairedFrom, fieldFrom, turnFrom, followedFrom};
 use answers::AyAnswer;
 use answers::AyField;
 use answers::AyFollowed;
 use answers::AyPacket;
 use answers::AyRepaired;
 use answers::AyTurn;
+use answers::AyVerdict;
 use answers::AyWord;
 use desk::Desk;
 use follower::Follower;
@@ -91,6 +93,15 @@ pub extern "C" fn ay_repair(words: &[u16], out: &mut [u16]) -> AyRepaired
 {
     let repaired = repair::repair(words, out);
     answers::repaired(repaired)
+}
+
+// Is a block of 254 bytes a codeword?
+#[no_mangle]
+pub extern "C" fn ay_check_codeword(block: &[u8]) -> AyVerdict
+    ensures { λ r. ⌜ r ≡ verdictFrom (verdictOf (now (block .entry))) ⌝ }
+{
+    let verdict = rs::check_codeword(block);
+    answers::verdict(verdict)
 }
 
 // What the bytes of a record are refused for.

@@ -1,4 +1,4 @@
--- The calls of word and packet, through their contracts: which answers, and what left in a lent buffer, a contract allows.
+-- The calls of word, codeword and packet, through their contracts: which answers, and what left in a lent buffer, a contract allows.
 -- Assumes nothing.
 use mathlib.Core.Path.{_≡_}
 use mathlib.Core.Bool.{Bool}
@@ -15,6 +15,9 @@ use Rattle.soundness.proofs.check_word.Kinds as check-word-types
 use Rattle.soundness.proofs.check_word.Reads as check-word-contract
 use Rattle.soundness.proofs.check_words.Kinds as check-words-types
 use Rattle.soundness.proofs.check_words.Reads as check-words-contract
+use Rattle.rs.specs.declared.Verdict.{Verdict}
+use Rattle.rs.proofs.check_codeword.Kinds as check-codeword-types
+use Rattle.rs.proofs.check_codeword.Reads as check-codeword-contract
 use Rattle.writing.specs.declared.Written.{Written}
 use Rattle.writing.proofs.write_packet.Kinds as write-types
 use Rattle.writing.proofs.write_packet.Reads as write-contract
@@ -44,6 +47,14 @@ pub record ChecksWords (words : List ℕ) (answer : Checked) : Type 0 where
   pub exit : AtExit (endedOf 1 check-words-types.ps check-words-types.r) κs
   pub lent : now (input .0) ≡ words
   pub allowed : check-words-contract.Learnt κs input answer exit
+
+-- it is checked whether the block is a codeword
+pub record ChecksCodeword (block : List ℕ) (answer : Verdict) : Type 0 where
+  pub κs : Lfts 1
+  pub input : Dens κs check-codeword-types.ps
+  pub exit : AtExit (endedOf 1 check-codeword-types.ps check-codeword-types.r) κs
+  pub lent : now (input .0) ≡ block
+  pub allowed : check-codeword-contract.Learnt κs input answer exit
 
 -- bytes are written as a packet, with correction on or off and an index, into a buffer that holds `old`, in which `left` is then left
 pub record Writes (on : Bool) (ci : ℕ) (bytes old : List ℕ) (answer : Written) (left : List ℕ) : Type 0 where

@@ -4,3 +4,4 @@ pub mod Distance
 pub mod Codeword
 pub mod Decode
 pub mod Packed
+pub mod Check

@@ -1,4 +1,5 @@
 pub mod Polynomial
 pub mod Codeword
 pub mod Decode
+pub mod Check
 pub mod Packed

@@ -1,10 +1,11 @@
 // The Reed-Solomon code RS(254,248) over GF(256): a codeword is 248 data bytes and their parity, the six bytes that the division of
-// the data by the divisor G leaves. What the division leaves of a delivered block tells whether it is a codeword. What repair gives is
-// defined here, in `specs/Decode.antt`; the crate `search` does it.
+// the data by the divisor G leaves. What the division leaves of a delivered block tells whether it is a codeword; a receiver that never
+// repairs asks for that alone. What repair gives is defined here, in `specs/Decode.antt`; the crate `search` does it.
 mod division;
 
 ghost use mathlib.Core.Path.{_≡_};
 ghost use Rattle.rs.specs.Codeword.{divisorBytes, parityOf, dividedOf};
+ghost use Rattle.rs.specs.Check.{verdictOf};
 use refusal::Checked;
 use refusal::Reason;
 
@@ -51,4 +52,24 @@ pub fn remainder(block: &[u8]) -> Divided
         checked: Checked::Passed,
         left: division::unpack(division::remainder(block)),
     }
+}
+
+// What the check answers: yes, the block is a codeword; no, it is none; or it is refused.
+pub enum Verdict {
+    Yes,
+    No,
+    Refused(refusal::Refusal),
+}
+
+// Is a block of 254 bytes a codeword? It is where the division leaves nothing of it. Another number of bytes is refused.
+pub fn check_codeword(block: &[u8]) -> Verdict
+    ensures { λ r. ⌜ r ≡ verdictOf (now (block .entry)) ⌝ }
+{
+    if block.len() != 254 {
+        return Verdict::Refused(refusal::plain(Reason::Size));
+    }
+    if division::remainder(block) == 0 {
+        return Verdict::Yes;
+    }
+    Verdict::No
 }

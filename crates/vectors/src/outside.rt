@@ -22,7 +22,7 @@ pub(crate) fn parities() -> u64 {
 }
 
 // Is the block repaired as the vector has it, or left where the vector says none?
-fn delivery_equal(vector: [u8; 509]) -> bool {
+fn repair_equal(vector: [u8; 509]) -> bool {
     let mut block = [0u8; 254];
     bytes::copy(&vector[1..255], &mut block);
     let told = answers::checked(search::repair(&mut block));
@@ -30,14 +30,23 @@ fn delivery_equal(vector: [u8; 509]) -> bool {
     (told.number == as_told) & check::same(&block, &vector[255..509])
 }
 
-// How many of 400 deliveries are equal.
+// Is the block found a codeword exactly where the vector has nothing to change in it?
+fn check_equal(vector: [u8; 509]) -> bool {
+    let mut block = [0u8; 254];
+    bytes::copy(&vector[1..255], &mut block);
+    let told = answers::verdict(rs::check_codeword(&block));
+    let whole = (vector[0] == 1) & check::same(&block, &vector[255..509]);
+    (told.number == 0) & (told.codeword == whole)
+}
+
+// How many of 400 deliveries are repaired and checked as the vectors have it.
 pub(crate) fn deliveries() -> u64 {
     let mut vector = [0u8; 509];
     let mut equal: u64 = 0;
     let mut n: usize = 0;
     while n < 400 {
         let got = io::read_full(0, &mut vector);
-        if (got == 509) & delivery_equal(vector) {
+        if (got == 509) & repair_equal(vector) & check_equal(vector) {
             equal = std::num::wrapping_add_u64(equal, 1);
         }
         n += 1;

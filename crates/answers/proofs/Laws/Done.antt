@@ -17,6 +17,9 @@ use Rattle.refusal.proofs.Laws.Number.{number-on-list}
 use Rattle.soundness.specs.declared.Soundness.{Soundness}
 use Rattle.soundness.specs.declared.Soundness.the-variants.{Sound, Unsound, Refused as RefusedWord}
 use Rattle.soundness.specs.Check.{refusalIn as refusalInWord}
+use Rattle.rs.specs.declared.Verdict.{Verdict}
+use Rattle.rs.specs.declared.Verdict.the-variants.{Yes, No, Refused as RefusedBlock}
+use Rattle.rs.specs.Check.{refusalIn as refusalInVerdict}
 use Rattle.reading.specs.declared.Reading.{Reading}
 use Rattle.reading.specs.declared.Reading.the-variants.{Accepted, Refused}
 use Rattle.repair.specs.declared.Repaired.{Repaired}
@@ -33,7 +36,7 @@ use Rattle.follower.specs.declared.Heard.{Heard}
 use Rattle.follower.specs.declared.Heard.the-variants.{Accepted as Arrived, Refused as RefusedPacket}
 use Rattle.follower.specs.Follower.{refusalIn as refusalInHeard}
 use Rattle.follower.specs.declared.Followed.{Followed}
-use Rattle.answers.specs.Answers.{done, answerBy, wordFrom, packetFrom, repairedFrom, fieldFrom, turnFrom, heardFrom, followedFrom}
+use Rattle.answers.specs.Answers.{done, answerBy, wordFrom, verdictFrom, packetFrom, repairedFrom, fieldFrom, turnFrom, heardFrom, followedFrom}
 
 -- ---- number 0
 
@@ -71,6 +74,12 @@ unfolding wordFrom answerBy
 word-says Sound = record { number-is = refl; place-is = refl }
 word-says (Unsound wrong) = record { number-is = refl; place-is = refl }
 word-says (RefusedWord why) = record { number-is = refl; place-is = refl }
+
+pub verdict-says : (v : Verdict) → Says (verdictFrom v .number) (verdictFrom v .place) (refusalInVerdict v)
+unfolding verdictFrom answerBy
+verdict-says Yes = record { number-is = refl; place-is = refl }
+verdict-says No = record { number-is = refl; place-is = refl }
+verdict-says (RefusedBlock why) = record { number-is = refl; place-is = refl }
 
 pub packet-says : (r : Reading) → Says (packetFrom r .number) (packetFrom r .place) (refusalInReading r)
 unfolding packetFrom answerBy

@@ -8,6 +8,7 @@ use Prim.Native.Nat.{ℕ, _<_}
 use lib.Dec.{eqb}
 use native.Mathlib.Omega.{arith}
 use borrow.Author.Tests.{leb-true, leb-false}
+use Rattle.basics.proofs.Laws.Test.{never}
 use Rattle.refusal.specs.Number.{numberOf, bitsOf, bitsIn}
 use Rattle.refusal.specs.declared.Wrong.{Wrong}
 use Rattle.refusal.specs.declared.Reason.{Reason}
@@ -17,6 +18,9 @@ use Rattle.refusal.proofs.Laws.Number.{number-inj, bits-seven}
 use Rattle.refusal.proofs.Laws.Chain.{checked-in, Without}
 use Rattle.soundness.specs.declared.Soundness.{Soundness}
 use Rattle.soundness.specs.declared.Soundness.the-variants.{Sound, Unsound, Refused as RefusedWord}
+use Rattle.rs.specs.declared.Verdict.{Verdict}
+use Rattle.rs.specs.declared.Verdict.the-variants.{Yes, No, Refused as RefusedBlock}
+use Rattle.rs.specs.Check.{refusalIn as refusalInVerdict}
 use Rattle.reading.specs.declared.Reading.{Reading}
 use Rattle.reading.specs.declared.Reading.the-variants.{Accepted, Refused}
 use Rattle.repair.specs.declared.Repaired.{Repaired}
@@ -38,12 +42,13 @@ use Rattle.follower.specs.declared.Heard.the-variants.{Accepted as Arrived, Ref
 use Rattle.follower.specs.declared.Followed.{Followed}
 use Rattle.answers.specs.declared.AyAnswer.{AyAnswer}
 use Rattle.answers.specs.declared.AyWord.{AyWord}
+use Rattle.answers.specs.declared.AyVerdict.{AyVerdict}
 use Rattle.answers.specs.declared.AyPacket.{AyPacket}
 use Rattle.answers.specs.declared.AyRepaired.{AyRepaired}
 use Rattle.answers.specs.declared.AyField.{AyField}
 use Rattle.answers.specs.declared.AyTurn.{AyTurn}
 use Rattle.answers.specs.declared.AyFollowed.{AyFollowed}
-use Rattle.answers.specs.Answers.{answerBy, wordFrom, packetFrom, repairedFrom, fieldFrom, turnFrom, kindNumber, heardFrom, followedFrom}
+use Rattle.answers.specs.Answers.{answerBy, wordFrom, verdictFrom, packetFrom, repairedFrom, fieldFrom, turnFrom, kindNumber, heardFrom, followedFrom}
 use Rattle.answers.proofs.Laws.Done.{number-positive}
 
 -- no reason has number 0
@@ -97,6 +102,19 @@ word-tells (RefusedWord a) Sound e = never-zero (a .reason) (ap (λ (x : AyWord)
 word-tells (RefusedWord a) (Unsound b) e = never-zero (a .reason) (ap (λ (x : AyWord). x .number) e)
 word-tells (RefusedWord a) (RefusedWord b) e =
     ap RefusedWord (refusal-known a b (ap (λ (x : AyWord). x .number) e) (ap (λ (x : AyWord). x .place) e) (ap (λ (x : AyWord). x .bits) e))
+
+pub verdict-tells : (a b : Verdict) → Without 7 (refusalInVerdict a) → Without 7 (refusalInVerdict b) → verdictFrom a ≡ verdictFrom b → a ≡ b
+unfolding verdictFrom
+verdict-tells Yes Yes v w e = refl
+verdict-tells Yes No v w e = never (ap (λ (x : AyVerdict). x .codeword) e)
+verdict-tells Yes (RefusedBlock b) v w e = never (ap (λ (x : AyVerdict). x .codeword) e)
+verdict-tells No Yes v w e = never (sym (ap (λ (x : AyVerdict). x .codeword) e))
+verdict-tells No No v w e = refl
+verdict-tells No (RefusedBlock b) v w e = never-zero (b .reason) (sym (ap (λ (x : AyVerdict). x .number) e))
+verdict-tells (RefusedBlock a) Yes v w e = never (sym (ap (λ (x : AyVerdict). x .codeword) e))
+verdict-tells (RefusedBlock a) No v w e = never-zero (a .reason) (ap (λ (x : AyVerdict). x .number) e)
+verdict-tells (RefusedBlock a) (RefusedBlock b) v w e =
+    ap RefusedBlock (bare-known a b v w (ap (λ (x : AyVerdict). x .number) e) (ap (λ (x : AyVerdict). x .place) e))
 
 pub packet-tells : (a b : Reading) → packetFrom a ≡ packetFrom b → a ≡ b
 unfolding packetFrom

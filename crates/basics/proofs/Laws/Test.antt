@@ -3,7 +3,7 @@
 use mathlib.Core.Path.{_≡_, refl, _∙_, subst, sym}
 use mathlib.Core.Bool.{Bool, true, false, _&&_, false≢true}
 use mathlib.Core.List.{List, [], _∷_}
-use mathlib.Core.Logic.{_⊎_, ⊎-elim, inl, inr}
+use mathlib.Core.Logic.{_↔_, _⊎_, ⊎-elim, inl, inr}
 use Prim.Native.Nat.{ℕ, zero, suc, _+_, _≤_, _<_}
 use native.Mathlib.Nat.{add-zero, zero-add, add-suc, suc-add, le-of-suc-le-suc, not-suc-le-zero, eq-or-lt-of-le}
 use native.Mathlib.Omega.{arith}
@@ -39,6 +39,11 @@ same-test false false f g = refl
 -- a test cannot both pass and fail
 pub never : {A : Type 0} → _≡_ {A = Bool} true false → A
 never e = absurd (false≢true (sym e))
+
+-- a test fails exactly when it does not pass
+pub fails : (t : Bool) → (t ≡ false) ↔ (t ≡ true → ⊥)
+fails true = (never, λ n. absurd (n refl))
+fails false = (λ e t. never (sym t), λ n. refl)
 
 -- ---- a rule at each number below a bound, and at each entry of a table
 

@@ -33,7 +33,7 @@ module _ (ci : ℕ) (r : List ℕ) (hc : ci ≤ 15) (c : CleanRecord r) (b : Byt
   guarded-length : length guarded ≡ 254
   guarded-length = length-protected true r (c .long)
 
-  sent-protected : protectedOf sent ≡ guarded
+  pub sent-protected : protectedOf sent ≡ guarded
   unfolding protectedOf
   sent-protected = ap protectedOf (packet-carries true ci r) ∙ take-at guarded _ 254 guarded-length
 

@@ -72,6 +72,8 @@ use Rattle.rs.proofs.parity.Kinds as parity-types
 use Rattle.rs.proofs.parity.Reads as parity-contract
 use Rattle.rs.proofs.remainder.Kinds as remainder-types
 use Rattle.rs.proofs.remainder.Reads as remainder-contract
+use Rattle.rs.proofs.check_codeword.Kinds as check-codeword-types
+use Rattle.rs.proofs.check_codeword.Reads as check-codeword-contract
 use Rattle.search.proofs.repair.Kinds as search-repair-types
 use Rattle.search.proofs.repair.Reads as search-repair-contract
 use Rattle.record.proofs.record_refusal.Kinds as record-refusal-types
@@ -150,6 +152,8 @@ use Rattle.answers.proofs.written.Kinds as answer-written-types
 use Rattle.answers.proofs.written.Reads as answer-written-contract
 use Rattle.answers.proofs.word.Kinds as answer-word-types
 use Rattle.answers.proofs.word.Reads as answer-word-contract
+use Rattle.answers.proofs.verdict.Kinds as answer-verdict-types
+use Rattle.answers.proofs.verdict.Reads as answer-verdict-contract
 use Rattle.answers.proofs.packet.Kinds as answer-packet-types
 use Rattle.answers.proofs.packet.Reads as answer-packet-contract
 use Rattle.answers.proofs.repaired.Kinds as answer-repaired-types
@@ -174,6 +178,8 @@ use Rattle.capi.proofs.ay_read_packet_into.Kinds as ay-read-packet-into-types
 use Rattle.capi.proofs.ay_read_packet_into.Reads as ay-read-packet-into-contract
 use Rattle.capi.proofs.ay_repair.Kinds as ay-repair-types
 use Rattle.capi.proofs.ay_repair.Reads as ay-repair-contract
+use Rattle.capi.proofs.ay_check_codeword.Kinds as ay-check-codeword-types
+use Rattle.capi.proofs.ay_check_codeword.Reads as ay-check-codeword-contract
 use Rattle.capi.proofs.ay_record_refusal.Kinds as ay-record-refusal-types
 use Rattle.capi.proofs.ay_record_refusal.Reads as ay-record-refusal-contract
 use Rattle.capi.proofs.ay_pack.Kinds as ay-pack-types
@@ -283,6 +289,9 @@ parity κs i a b s t p q = p ∙ sym q
 
 pub remainder : OneAnswer 1 remainder-types.ps remainder-types.r remainder-contract.Learnt
 remainder κs i a b s t p q = p ∙ sym q
+
+pub check-codeword : OneAnswer 1 check-codeword-types.ps check-codeword-types.r check-codeword-contract.Learnt
+check-codeword κs i a b s t p q = p ∙ sym q
 
 -- ---- search
 
@@ -445,6 +454,9 @@ answer-written κs i a b s t p q = p ∙ sym q
 pub answer-word : OneAnswer 0 answer-word-types.ps answer-word-types.r answer-word-contract.Learnt
 answer-word κs i a b s t p q = p ∙ sym q
 
+pub answer-verdict : OneAnswer 0 answer-verdict-types.ps answer-verdict-types.r answer-verdict-contract.Learnt
+answer-verdict κs i a b s t p q = p ∙ sym q
+
 pub answer-packet : OneAnswer 0 answer-packet-types.ps answer-packet-types.r answer-packet-contract.Learnt
 answer-packet κs i a b s t p q = p ∙ sym q
 
@@ -482,6 +494,9 @@ ay-read-packet-into κs i a b s t p q = (p .0 ∙ sym (q .0), p .1 ∙ sym (q .1
 
 pub ay-repair : OneOutcome 2 ay-repair-types.ps ay-repair-types.r (λ κs s. now (s .1 .0)) ay-repair-contract.Learnt
 ay-repair κs i a b s t p q = (p .0 ∙ sym (q .0), p .1 ∙ sym (q .1))
+
+pub ay-check-codeword : OneAnswer 1 ay-check-codeword-types.ps ay-check-codeword-types.r ay-check-codeword-contract.Learnt
+ay-check-codeword κs i a b s t p q = p ∙ sym q
 
 pub ay-record-refusal : OneAnswer 1 ay-record-refusal-types.ps ay-record-refusal-types.r ay-record-refusal-contract.Learnt
 ay-record-refusal κs i a b s t p q = p ∙ sym q

@@ -1,4 +1,4 @@
--- What the contracts say of the calls of word and packet, as equations.
+-- What the contracts say of the calls of word, codeword and packet, as equations.
 -- Assumes nothing.
 use mathlib.Core.Path.{_≡_, sym, ap, _∙_}
 use mathlib.Core.Bool.{Bool}
@@ -9,19 +9,24 @@ use Rattle.refusal.specs.Checked.{checkedOf}
 use Rattle.refusal.specs.declared.Checked.{Checked}
 use Rattle.soundness.specs.declared.Soundness.{Soundness}
 use Rattle.soundness.specs.Check.{soundnessOf, wordsRefusal}
+use Rattle.rs.specs.declared.Verdict.{Verdict}
+use Rattle.rs.specs.Check.{verdictOf}
 use Rattle.writing.specs.declared.Written.{Written}
 use Rattle.writing.specs.Written.{writtenOf, writeLeaves}
 use Rattle.reading.specs.declared.Reading.{Reading}
 use Rattle.reading.specs.Answer.{readingOf, readingIntoOf, readLeaves}
 use Rattle.repair.specs.declared.Repaired.{Repaired}
 use Rattle.repair.specs.Repair.{repairedOf, repairLeaves}
-use Rattle.promises.specs.PacketCalls.{ChecksWord, ChecksWords, Writes, ReadsPacket, ReadsInto, Repairs}
+use Rattle.promises.specs.PacketCalls.{ChecksWord, ChecksWords, ChecksCodeword, Writes, ReadsPacket, ReadsInto, Repairs}
 
 pub checks-word-is : (word : ℕ) (a : Soundness) → ChecksWord word a → a ≡ soundnessOf word
 checks-word-is word a C = C .allowed ∙ ap soundnessOf (C .given)
 
 pub checks-words-is : (words : List ℕ) (a : Checked) → ChecksWords words a → a ≡ checkedOf (wordsRefusal words)
 checks-words-is words a C = C .allowed ∙ ap (λ (l : List ℕ). checkedOf (wordsRefusal l)) (C .lent)
+
+pub checks-codeword-is : (block : List ℕ) (a : Verdict) → ChecksCodeword block a → a ≡ verdictOf block
+checks-codeword-is block a C = C .allowed ∙ ap verdictOf (C .lent)
 
 pub writes-is : (on : Bool) (ci : ℕ) (bytes old : List ℕ) (a : Written) (left : List ℕ) → Writes on ci bytes old a left → a ≡ writtenOf ci bytes (length old)
 writes-is on ci bytes old a left W = W .allowed .0 ∙ (λ i. writtenOf (W .index i) (W .lent i) (length (W .room i)))

@@ -1,14 +1,16 @@
--- Packets, as the calls write, read, follow and repair them: which are beyond repair, that what is written is read again, that what is
--- read is written again, and that repair gives back what was sent.
+-- Packets, as the calls write, read, follow and repair them: which are beyond repair, that what is written is read again and carries a codeword,
+-- that what is read is written again, and that repair gives back what was sent.
 -- Assumes nothing.
 use mathlib.Core.Path.{_≡_, refl, sym, ap, _∙_, subst}
 use mathlib.Core.Bool.{Bool, true, false}
-use mathlib.Core.List.{List}
+use mathlib.Core.List.{List, _++_}
 use mathlib.Core.Option.{Option, none, some}
 use Prim.Native.Nat.{ℕ}
 use lib.ListN.{length}
 use Rattle.basics.specs.Below.{Bytes}
 use Rattle.anc.specs.Words.{lowBytes, narrow, soundWords}
+use Rattle.anc.proofs.Laws.Words.{low-words}
+use Rattle.rs.specs.Codeword.{parityOf, Codeword}
 use Rattle.rs.specs.Decode.{changes, Within}
 use Rattle.refusal.specs.Number.{refusalPlain}
 use Rattle.refusal.specs.declared.Reason.the-variants.{BeyondRepair}
@@ -27,6 +29,7 @@ use Rattle.writing.specs.declared.Written.the-variants.{Done}
 use Rattle.writing.specs.Layout.{packetWords}
 use Rattle.writing.specs.Writing.{writtenWords}
 use Rattle.writing.specs.Written.{writtenOf}
+use Rattle.writing.proofs.Laws.Layout.{written-codeword, protected-on}
 use Rattle.writing.proofs.Laws.Writing.{Wrote, done-wrote, wrote-done}
 use Rattle.reading.specs.declared.Packet.{Packet}
 use Rattle.reading.specs.declared.Reading.{Reading}
@@ -45,6 +48,7 @@ use Rattle.follower.proofs.Laws.Follow.{refusal-heard}
 use Rattle.promises.specs.Calls.{Follows}
 use Rattle.promises.specs.PacketCalls.{Writes, ReadsPacket, ReadsInto, Repairs}
 use Rattle.promises.specs.Packets.{BeyondExactly, WrittenAgain}
+use Rattle.promises.proofs.Laws.Arrival.{sent-protected}
 use Rattle.promises.proofs.Laws.Calls.{follows-is}
 use Rattle.promises.proofs.Laws.PacketCalls.{writes-is, writes-leaves, reads-packet-is, reads-into-is, reads-into-leaves, repairs-is, repairs-leaves}
 
@@ -127,6 +131,15 @@ module _ (on : Bool) (ci : ℕ) (bytes old words : List ℕ) (W : Writes on ci b
   -- and where the packet alone is asked for
   pub written-read-packet : (a : Reading) → ReadsPacket words a → a ≡ Accepted (record { correction = on; ci = ci; fixed = 0 })
   written-read-packet a R = reads-packet-is words a R ∙ read-accepts words (reads .accepted) ∙ ap Accepted packet
+
+  -- with correction on, the bytes that the protected words carry are a codeword
+  pub written-protected : on ≡ true → Codeword (lowBytes (protectedOf words))
+  written-protected e =
+      let r : List ℕ = recordOf bytes in
+      let C = written-codeword r (clean .long) are-bytes in
+      let protected : protectedOf words ≡ soundWords (r ++ parityOf r) =
+      ap protectedOf (words-are ∙ ap (λ (b : Bool). packetWords b ci r) e) ∙ sent-protected ci r (wrote .index) clean are-bytes ∙ protected-on r in
+      subst Codeword (sym (ap lowBytes protected ∙ low-words (r ++ parityOf r) (C .bytes))) C
 
 -- ---- read and written again: the same words exactly when nothing was fixed and the places that aren't read were zero
 

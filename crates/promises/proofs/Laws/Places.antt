@@ -15,6 +15,8 @@ use Rattle.refusal.proofs.Laws.Number.{bits-seven, bits-le}
 use Rattle.refusal.proofs.Laws.Chain.{refusal-in}
 use Rattle.soundness.specs.Check.{refusalIn as refusalInWord}
 use Rattle.rs.specs.Codeword.{dividedOf}
+use Rattle.rs.specs.Check.{refusalIn as refusalInVerdict}
+use Rattle.rs.proofs.Laws.Check.{refusal-said as check-said}
 use Rattle.view.specs.Read.{recordReadOf}
 use Rattle.repair.specs.Repair.{refusalIn as refusalInRepair}
 use Rattle.repair.proofs.Laws.Repair.{refusal-said as repair-said, count-said}
@@ -35,7 +37,7 @@ use Rattle.follower.specs.declared.Follower.{Follower}
 use Rattle.follower.specs.declared.Heard.{Heard}
 use Rattle.follower.specs.declared.Heard.the-variants.{Accepted as Arrived, Refused as RefusedPacket}
 use Rattle.answers.specs.Answers.{answerBy, packetFrom, heardFrom, followedFrom}
-use Rattle.answers.proofs.Laws.Done.{Says, word-says, packet-says, repaired-says, field-says, turn-says, followed-says}
+use Rattle.answers.proofs.Laws.Done.{Says, word-says, verdict-says, packet-says, repaired-says, field-says, turn-says, followed-says}
 use Rattle.promises.specs.Places.{RightPlace, RightIn, BitsBeside, PlacesRight, AnswersRight, BitsRight}
 use Rattle.promises.proofs.Laws.Placed.{check-right, words-right, fill-right, block-right, decode-right, place-right, item-right, record-right, written-right, put-right, store-right, repair-right, count-right, write-right, read-right, into-right, step-right, back-right, undo-right, send-right, pack-right, unpack-right}
 use Rattle.soundness.proofs.check_word.Kinds as check-word-types
@@ -48,6 +50,8 @@ use Rattle.anc.proofs.sound_words.Kinds as sound-words-types
 use Rattle.anc.proofs.sound_words.Reads as sound-words-contract
 use Rattle.rs.proofs.remainder.Kinds as remainder-types
 use Rattle.rs.proofs.remainder.Reads as remainder-contract
+use Rattle.rs.proofs.check_codeword.Kinds as check-codeword-types
+use Rattle.rs.proofs.check_codeword.Reads as check-codeword-contract
 use Rattle.search.proofs.repair.Kinds as search-repair-types
 use Rattle.search.proofs.repair.Reads as search-repair-contract
 use Rattle.items.proofs.item_place.Kinds as item-place-types
@@ -100,6 +104,8 @@ use Rattle.capi.proofs.ay_read_packet_into.Kinds as ay-read-packet-into-types
 use Rattle.capi.proofs.ay_read_packet_into.Reads as ay-read-packet-into-contract
 use Rattle.capi.proofs.ay_repair.Kinds as ay-repair-types
 use Rattle.capi.proofs.ay_repair.Reads as ay-repair-contract
+use Rattle.capi.proofs.ay_check_codeword.Kinds as ay-check-codeword-types
+use Rattle.capi.proofs.ay_check_codeword.Reads as ay-check-codeword-contract
 use Rattle.capi.proofs.ay_record_refusal.Kinds as ay-record-refusal-types
 use Rattle.capi.proofs.ay_record_refusal.Reads as ay-record-refusal-contract
 use Rattle.capi.proofs.ay_pack.Kinds as ay-pack-types
@@ -137,6 +143,9 @@ check-words κs i a s p = rw (p, refusal-in) (words-right _)
 pub remainder : PlacesRight 1 remainder-types.ps remainder-types.r 0 (λ κs a. refusalIn (a .checked)) remainder-contract.Learnt
 unfolding dividedOf
 remainder κs i a s p = rw (p, refusal-in) (block-right _)
+
+pub check-codeword : PlacesRight 1 check-codeword-types.ps check-codeword-types.r 0 (λ κs. refusalInVerdict) check-codeword-contract.Learnt
+check-codeword κs i a s p = rw (p, check-said) (block-right _)
 
 pub search-repair : PlacesRight 1 search-repair-types.ps search-repair-types.r 0 (λ κs. refusalIn) search-repair-contract.Learnt
 search-repair κs i a s p = rw (p .0, refusal-in) (decode-right _)
@@ -244,6 +253,9 @@ ay-read-packet-into κs i a s p = rw (p .0) (says-right (packet-says _) (rw into
 
 pub ay-repair : AnswersRight 2 ay-repair-types.ps ay-repair-types.r 0 (λ κs a. a .number) (λ κs a. a .place) ay-repair-contract.Learnt
 ay-repair κs i a s p = rw (p .0) (says-right (repaired-says _) (rw repair-said (repair-right _ _)))
+
+pub ay-check-codeword : AnswersRight 1 ay-check-codeword-types.ps ay-check-codeword-types.r 0 (λ κs a. a .number) (λ κs a. a .place) ay-check-codeword-contract.Learnt
+ay-check-codeword κs i a s p = rw p (says-right (verdict-says _) (rw check-said (block-right _)))
 
 pub ay-record-refusal : AnswersRight 1 ay-record-refusal-types.ps ay-record-refusal-types.r 0 (λ κs a. a .number) (λ κs a. a .place) ay-record-refusal-contract.Learnt
 ay-record-refusal κs i a s p = rw p (answer-right _ (record-right _))

@@ -21,6 +21,7 @@ use Rattle.items.specs.Item.{rowOf, refusedIn, itemRefusal}
 use Rattle.anc.specs.Words.{narrow}
 use Rattle.refusal.specs.Checked.{checkedOf}
 use Rattle.soundness.specs.Check.{soundnessOf, wordsRefusal}
+use Rattle.rs.specs.Check.{verdictOf}
 use Rattle.writing.specs.Written.{writtenOf, writeLeaves}
 use Rattle.repair.specs.Repair.{repairedOf, repairLeaves}
 use Rattle.reading.specs.Answer.{readingOf, readingIntoOf, readLeaves}
@@ -35,7 +36,7 @@ use Rattle.follower.proofs.Laws.Count.{counted-true}
 use Rattle.lines.specs.Shown.{shown}
 use Rattle.lines.proofs.Laws.Shown.{shown-sized}
 use Rattle.promises.specs.Calls.{Opens, Edits, Undoes, Sends, Begins, Follows, Shows}
-use Rattle.promises.specs.PacketCalls.{ChecksWord, ChecksWords, Writes, ReadsPacket, ReadsInto, Repairs}
+use Rattle.promises.specs.PacketCalls.{ChecksWord, ChecksWords, ChecksCodeword, Writes, ReadsPacket, ReadsInto, Repairs}
 use Rattle.promises.specs.Line.{Delivers, Fate, unsent, waiting, dropped, delivered, Scene, sent as send-to, turned, heard, Line, opens, turns, sends, no-room, drops, delivers, repeats}
 use Rattle.promises.specs.History.{edits, undoes}
 use Rattle.promises.proofs.Laws.Line.{Ordinary, waiting-ordinary, delivered-ordinary, demand-3}
@@ -88,6 +89,9 @@ check-word-call word = record { κs = tt; input = (word, tt); exit = (word, tt);
 
 pub check-words-call : (words : List ℕ) → ChecksWords words (checkedOf (wordsRefusal words))
 check-words-call words = record { κs = ([], tt); input = (lend words, tt); exit = (lend words, tt); lent = refl; allowed = refl }
+
+pub check-codeword-call : (block : List ℕ) → ChecksCodeword block (verdictOf block)
+check-codeword-call block = record { κs = ([], tt); input = (lend block, tt); exit = (lend block, tt); lent = refl; allowed = refl }
 
 pub write-call : (on : Bool) (ci : ℕ) (bytes old : List ℕ) → Bytes bytes → Writes on ci bytes old (writtenOf ci bytes (length old)) (writeLeaves on ci bytes old)
 write-call on ci bytes old b =

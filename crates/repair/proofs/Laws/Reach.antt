@@ -1,14 +1,14 @@
 -- The test of the refusals against what is within reach, and when repair alone refuses with 9, BEYOND REPAIR.
 -- Assumes nothing.
 use mathlib.Core.Path.{_≡_, refl, sym, ap}
-use mathlib.Core.Bool.{Bool, true, false}
+use mathlib.Core.Bool.{true, false}
 use mathlib.Core.List.{List}
 use mathlib.Core.Logic.{_↔_, Iff·trans, Iff·not}
 use mathlib.Core.Option.{Option, none, some}
 use Prim.Native.Nat.{ℕ}
 use borrow.Author.Tests.{eq-eqb}
 use lib.ListN.{length}
-use Rattle.basics.proofs.Laws.Test.{never}
+use Rattle.basics.proofs.Laws.Test.{never, fails}
 use Rattle.anc.specs.Words.{lowBytes, narrow}
 use Rattle.refusal.specs.Number.{numberOf, refusalPlain}
 use Rattle.refusal.specs.declared.Reason.the-variants.{BeyondRepair}
@@ -30,10 +30,6 @@ repairable-reach words = (found (decode (lowBytes words)) refl, λ (c, W). ap gi
 -- and fails exactly when none is
 pub beyond-reach : (words : List ℕ) → (repairable (lowBytes words) ≡ false) ↔ (WithinReach words → ⊥)
 beyond-reach words = Iff·trans (fails (repairable (lowBytes words))) (Iff·not (repairable-reach words))
-  where
-    fails : (t : Bool) → (t ≡ false) ↔ (t ≡ true → ⊥)
-    fails true = (never, λ n. absurd (n refl))
-    fails false = (λ e t. never (sym t), λ n. refl)
 
 -- of 254 words of ten bits, into any room
 pub repair-beyond : (words : List ℕ) (room : ℕ) → length words ≡ 254 → narrow words ≡ true

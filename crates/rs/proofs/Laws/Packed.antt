@@ -16,7 +16,7 @@ use Rattle.gf256.specs.Field.{_⊕_, _⊗_, double, pow}
 use Rattle.basics.proofs.Laws.Test.{lt-or-le}
 use Rattle.gf256.proofs.Laws.Sum.{⊕-assoc, ⊕-comm, ⊕-self, ⊕-zero-r, ⊕-lt}
 use Rattle.gf256.proofs.Laws.Product.{⊗-assoc, ⊗-⊕-l, ⊗-zero-l, ⊗-one-l, two-double}
-use Rattle.rs.specs.Polynomial.{_⊞_, scale}
+use Rattle.rs.specs.Polynomial.{_⊞_, scale, zeros}
 use Rattle.rs.specs.Codeword.{divisorBytes, next, remainder, parityOf, leftOf}
 use Rattle.basics.specs.Below.{Bytes}
 use Rattle.rs.specs.Packed.{pack, unpack, turn, Multiples, Extended}
@@ -149,6 +149,18 @@ pub left-unpacked : (l : List ℕ) → length l ≡ 254 → Bytes l → unpack 6
 left-unpacked l e b =
     unpack-pack 6 _ (length-⊞ _ _ (as-long l e) ∙ last-six l e) (⊞-bytes _ _ (parity-bytes (take 248 l)) (drop-below 256 248 l b))
     ∙ sym (left-long l e)
+
+-- ---- a packed number is 0 exactly where its bytes are
+
+pub pack-zeros : (n : ℕ) → pack (zeros n) ≡ 0
+unfolding pack
+pack-zeros zero = refl
+pack-zeros (suc n) = omega (arith, pack-zeros n)
+
+pub zero-packed : (l : List ℕ) → pack l ≡ 0 → l ≡ zeros (length l)
+unfolding pack
+zero-packed [] e = refl
+zero-packed (b ∷ l) e = ap₂ _∷_ (omega arith) (zero-packed l (omega arith))
 
 -- ---- twice a byte
 
