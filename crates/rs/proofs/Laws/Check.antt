@@ -7,7 +7,6 @@ use mathlib.Core.List.{List, _++_}
 use mathlib.Core.Option.{Option, none, some, Option·some-ne-none}
 use Prim.Native.Nat.{ℕ}
 use native.Mathlib.Omega.{arith}
-use borrow.Author.Tests.{eq-eqb, ne-eqb, eqb-true}
 use lib.ListN.{length, take, drop, getD}
 use Rattle.basics.specs.Below.{Bytes}
 use Rattle.basics.specs.Each.{all, same}
@@ -15,7 +14,6 @@ use Rattle.basics.proofs.Laws.Test.{fails}
 use Rattle.refusal.specs.Number.{refusalPlain}
 use Rattle.refusal.specs.declared.Reason.the-variants.{Size}
 use Rattle.refusal.specs.declared.Refusal.{Refusal}
-use Rattle.refusal.proofs.Laws.Chain.{require-passed}
 use Rattle.gf256.specs.Field.{_⊕_, _⊗_, byBits, double}
 use Rattle.rs.specs.declared.Verdict.the-variants.{Yes, No, Refused}
 use Rattle.rs.specs.Polynomial.{_⊞_, scale, zeros}
@@ -24,7 +22,7 @@ use Rattle.rs.specs.Decode.{changes, isCodeword}
 use Rattle.rs.specs.Packed.{pack}
 use Rattle.rs.specs.Check.{verdictBy, verdictOf, refusalIn, yesIn}
 use Rattle.rs.proofs.Laws.Polynomial.{length-⊞}
-use Rattle.rs.proofs.Laws.Codeword.{left-long, last-six, as-long, zero-codeword, codeword-zero}
+use Rattle.rs.proofs.Laws.Codeword.{block-passes, passes-block, block-refused, left-long, last-six, as-long, zero-codeword, codeword-zero}
 use Rattle.rs.proofs.Laws.Decode.{true-codeword, codeword-true}
 use Rattle.rs.proofs.Laws.Packed.{pack-zeros, zero-packed}
 
@@ -47,24 +45,19 @@ module _ (l : List ℕ) where
   unfolding verdictOf
   refusal-said = by-refusal (blockRefusal l) (isCodeword l)
 
-  -- 254 bytes are not refused
-  long-passes : length l ≡ 254 → blockRefusal l ≡ none
-  unfolding blockRefusal
-  long-passes n = rw (eq-eqb _ _ n) refl
-
   -- each answer in its case
 
   pub codeword-yes : Codeword l → verdictOf l ≡ Yes
   unfolding verdictOf
-  codeword-yes C = rw (long-passes (C .long), codeword-true l C) refl
+  codeword-yes C = rw (block-passes l (C .long), codeword-true l C) refl
 
   pub other-no : length l ≡ 254 → (Codeword l → ⊥) → verdictOf l ≡ No
   unfolding verdictOf
-  other-no n c = rw (long-passes n, fails (isCodeword l) .1 (λ t. c (true-codeword l t))) refl
+  other-no n c = rw (block-passes l n, fails (isCodeword l) .1 (λ t. c (true-codeword l t))) refl
 
   pub short-refused : (length l ≡ 254 → ⊥) → verdictOf l ≡ Refused (refusalPlain Size)
-  unfolding verdictOf blockRefusal
-  short-refused n = rw (ne-eqb _ _ n) refl
+  unfolding verdictOf
+  short-refused n = rw (block-refused l n) refl
 
   -- and there only
 
@@ -73,14 +66,10 @@ module _ (l : List ℕ) where
   yes-codeword e = true-codeword l (by-test (blockRefusal l) (isCodeword l) (ap yesIn e))
 
   pub no-other : verdictOf l ≡ No → (length l ≡ 254) × (Codeword l → ⊥)
-  unfolding blockRefusal
-  no-other e = (
-    eqb-true _ _ (require-passed _ _ _ (sym refusal-said ∙ ap refusalIn e) .0),
-    λ C. false≢true (ap yesIn (sym e ∙ codeword-yes C)),
-  )
+  no-other e = (passes-block l (sym refusal-said ∙ ap refusalIn e), λ C. false≢true (ap yesIn (sym e ∙ codeword-yes C)))
 
   pub refused-short : verdictOf l ≡ Refused (refusalPlain Size) → length l ≡ 254 → ⊥
-  refused-short e n = Option·some-ne-none _ (ap refusalIn (sym e) ∙ refusal-said ∙ long-passes n)
+  refused-short e n = Option·some-ne-none _ (ap refusalIn (sym e) ∙ refusal-said ∙ block-passes l n)
 
 -- ---- by what the division leaves, packed
 

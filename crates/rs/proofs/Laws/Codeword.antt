@@ -4,16 +4,18 @@
 use mathlib.Core.Path.{_≡_, refl, sym, ap, ap₂, _∙_}
 use mathlib.Core.List.{List, _++_}
 use mathlib.Core.Logic.{⊎-elim}
+use mathlib.Core.Option.{none, some}
 use Prim.Native.Nat.{ℕ, _≤_, _<_}
 use native.Mathlib.Omega.{arith}
 use lib.ListN.{length, take, drop, length-append, length-drop, length-replicate, take-append-drop}
 use lib.Seq.{drop-at, length-take-le}
-use borrow.Author.Tests.{eq-eqb, ne-eqb}
+use borrow.Author.Tests.{eq-eqb, ne-eqb, eqb-true}
 use Rattle.refusal.specs.Checked.{checkedOf}
 use Rattle.refusal.specs.Number.{refusalPlain}
 use Rattle.refusal.specs.declared.Checked.{Checked}
 use Rattle.refusal.specs.declared.Checked.the-variants.{Passed, Refused}
 use Rattle.refusal.specs.declared.Reason.the-variants.{Size}
+use Rattle.refusal.proofs.Laws.Chain.{require-passed}
 use Rattle.gf256.specs.Field.{_⊕_, _⊗_, pow}
 use Rattle.gf256.proofs.Laws.Sum.{⊕-self, ⊕-zero-l}
 use Rattle.gf256.proofs.Laws.Product.{⊗-zero-r}
@@ -56,15 +58,29 @@ codeword-vanishes w c j h =
     ap (valueAt (pow 2 j)) (sym (take-append-drop 248 w) ∙ ap (_++_ (take 248 w)) (c .parity))
     ∙ parity-vanishes (take 248 w) (take-below 256 248 w (c .bytes)) j h
 
+-- ---- a block is refused exactly when it has another number of bytes than 254
+
+pub block-passes : (l : List ℕ) → length l ≡ 254 → blockRefusal l ≡ none
+unfolding blockRefusal
+block-passes l n = rw (eq-eqb _ _ n) refl
+
+pub passes-block : (l : List ℕ) → blockRefusal l ≡ none → length l ≡ 254
+unfolding blockRefusal
+passes-block l p = eqb-true _ _ (require-passed _ _ _ p .0)
+
+pub block-refused : (l : List ℕ) → (length l ≡ 254 → ⊥) → blockRefusal l ≡ some (refusalPlain Size)
+unfolding blockRefusal
+block-refused l n = rw (ne-eqb _ _ n) refl
+
 -- ---- what the division leaves of a block
 
 pub left-short : (l : List ℕ) → (length l ≡ 254 → ⊥) → leftOf l ≡ zeros 6
-unfolding leftOf blockRefusal
-left-short l n = rw (ne-eqb _ _ n) refl
+unfolding leftOf
+left-short l n = rw (block-refused l n) refl
 
 pub left-long : (l : List ℕ) → length l ≡ 254 → leftOf l ≡ parityOf (take 248 l) ⊞ drop 248 l
-unfolding leftOf blockRefusal
-left-long l n = rw (eq-eqb _ _ n) refl
+unfolding leftOf
+left-long l n = rw (block-passes l n) refl
 
 -- what a division answers
 module _ (l : List ℕ) where
@@ -73,12 +89,10 @@ module _ (l : List ℕ) where
   answered a rest e f = ap₂ (λ (x : Checked) (y : List ℕ). let d : Divided = record { checked = x; left = y } in d) e f
 
   pub divided-short : (length l ≡ 254 → ⊥) → record { checked = Refused (refusalPlain Size); left = zeros 6 } ≡ dividedOf l
-  unfolding blockRefusal
-  divided-short n = answered _ _ (rw (ne-eqb _ _ n) refl) (sym (left-short l n))
+  divided-short n = answered _ _ (rw (block-refused l n) refl) (sym (left-short l n))
 
   pub divided-long : (rest : List ℕ) → length l ≡ 254 → rest ≡ leftOf l → record { checked = Passed; left = rest } ≡ dividedOf l
-  unfolding blockRefusal
-  divided-long rest n e = answered _ rest (rw (eq-eqb _ _ n) refl) e
+  divided-long rest n e = answered _ rest (rw (block-passes l n) refl) e
 
 module _ (l : List ℕ) (n : length l ≡ 254) where
   pub last-six : length (drop 248 l) ≡ 6

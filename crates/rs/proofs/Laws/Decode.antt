@@ -19,12 +19,12 @@ use Rattle.refusal.specs.Chain.{require, passed}
 use Rattle.refusal.specs.Number.{refusalPlain}
 use Rattle.refusal.specs.declared.Reason.the-variants.{BeyondRepair}
 use Rattle.refusal.specs.declared.Refusal.{Refusal}
-use Rattle.rs.specs.Codeword.{blockRefusal, Codeword}
+use Rattle.rs.specs.Codeword.{Codeword}
 use Rattle.basics.specs.Below.{Bytes}
 use Rattle.basics.proofs.Laws.Below.{all-below, below-all}
 use Rattle.rs.specs.Decode.{changes, Within, isByte, isCodeword, fronted, near, firstCodeword, given, decode, repairable, repaired, decodeRefusal}
 use Rattle.rs.proofs.Laws.Distance.{place, differ-le, differ-same, changes-zero, changes-self, changes-le-length}
-use Rattle.rs.proofs.Laws.Codeword.{codeword-unique}
+use Rattle.rs.proofs.Laws.Codeword.{block-passes, codeword-unique}
 
 -- ---- the test
 
@@ -184,8 +184,8 @@ codeword-answer l C = some-answer l l (decode-self l C)
 
 -- of 254 bytes, whether there is such a codeword decides
 pub decode-decides : (l : List ℕ) → length l ≡ 254 → decodeRefusal l ≡ require (repairable l) (refusalPlain BeyondRepair) passed
-unfolding decodeRefusal blockRefusal
-decode-decides l n = rw (eq-eqb (length l) 254 n)
+unfolding decodeRefusal
+decode-decides l n = rw (block-passes l n)
 
 -- what is refused stays as it was
 pub refused-keeps : (l : List ℕ) (why : Refusal) → decodeRefusal l ≡ some why → repaired l ≡ l
