@@ -1,4 +1,4 @@
-// Runs what is compared and not proved: parities and repairs that another program worked out, three changed words at both ends of the
+// Runs what is compared and not proved: parities, repairs and checks that another program worked out, three changed words at both ends of the
 // codeword, the end of the history, and a day of a desk and a follower over a damaged line. Prints what was compared.
 mod day;
 mod desk_cases;

@@ -21,8 +21,7 @@ use Rattle.rs.specs.Codeword.{divisorBytes, G, next, remainder, parityOf
 use Rattle.rs.specs.Decode.{changes, isCodeword}
 use Rattle.rs.specs.Packed.{pack}
 use Rattle.rs.specs.Check.{verdictBy, verdictOf, refusalIn, yesIn}
-use Rattle.rs.proofs.Laws.Polynomial.{length-⊞}
-use Rattle.rs.proofs.Laws.Codeword.{block-passes, passes-block, block-refused, left-long, last-six, as-long, zero-codeword, codeword-zero}
+use Rattle.rs.proofs.Laws.Codeword.{block-passes, passes-block, block-refused, left-long, left-six, zero-codeword, codeword-zero}
 use Rattle.rs.proofs.Laws.Decode.{true-codeword, codeword-true}
 use Rattle.rs.proofs.Laws.Packed.{pack-zeros, zero-packed}
 
@@ -76,20 +75,23 @@ module _ (l : List ℕ) where
 module _ (l : List ℕ) (n : length l ≡ 254) (b : Bytes l) where
   pub nothing-yes : pack (parityOf (take 248 l) ⊞ drop 248 l) ≡ 0 → verdictOf l ≡ Yes
   nothing-yes z =
-      codeword-yes l (zero-codeword l n b (left-long l n ∙ zero-packed _ z ∙ ap (λ (k : ℕ). zeros k) (length-⊞ _ _ (as-long l n) ∙ last-six l n)))
+      codeword-yes l (zero-codeword l n b (left-long l n ∙ zero-packed _ z ∙ ap (λ (k : ℕ). zeros k) (left-six l n)))
 
   pub something-no : (pack (parityOf (take 248 l) ⊞ drop 248 l) ≡ 0 → ⊥) → verdictOf l ≡ No
   something-no z = other-no l n (λ C. z (ap pack (sym (left-long l n) ∙ codeword-zero l C) ∙ pack-zeros 6))
 
 -- ---- two codewords that differ in seven places: 254 zeros, and the coefficients of G behind 247 zeros
 
-pub zeros-codeword : Codeword (zeros 254)
+-- both pass the test, as is computed
+tested : (isCodeword (zeros 254) ≡ true) × (isCodeword (zeros 247 ++ G) ≡ true)
 unfolding isCodeword all same parityOf remainder next divisorBytes _⊞_ scale _⊗_ byBits double _⊕_
-zeros-codeword = true-codeword (zeros 254) refl
+tested = (refl, refl)
+
+pub zeros-codeword : Codeword (zeros 254)
+zeros-codeword = true-codeword (zeros 254) (tested .0)
 
 pub divisor-codeword : Codeword (zeros 247 ++ G)
-unfolding isCodeword all same parityOf remainder next divisorBytes _⊞_ scale _⊗_ byBits double _⊕_
-divisor-codeword = true-codeword (zeros 247 ++ G) refl
+divisor-codeword = true-codeword (zeros 247 ++ G) (tested .1)
 
 pub seven-apart : changes (zeros 254) (zeros 247 ++ G) ≡ 7
 unfolding changes divisorBytes

@@ -1,5 +1,5 @@
 -- 254 bytes are a codeword exactly when they have the value 0 at the powers 0 to 5 of 2, so two codewords differ in at least seven places.
--- What a receiver divides has at these powers the values of what it was delivered.
+-- What a receiver divides has at these powers the values of what it was delivered. And which blocks are refused.
 -- Assumes nothing.
 use mathlib.Core.Path.{_≡_, refl, sym, ap, ap₂, _∙_}
 use mathlib.Core.List.{List, _++_}
@@ -25,7 +25,7 @@ use Rattle.rs.specs.Codeword.{G, parityOf, leftOf, blockRefusal, divided
 use Rattle.rs.specs.declared.Divided.{Divided}
 use Rattle.basics.specs.Below.{Bytes}
 use Rattle.rs.specs.Decode.{changes}
-use Rattle.rs.proofs.Laws.Polynomial.{⊞-self, ⊞-zero-eq, value-⊞, value-append, value-above, value-moved, length-⊠, value-⊠}
+use Rattle.rs.proofs.Laws.Polynomial.{length-⊞, ⊞-self, ⊞-zero-eq, value-⊞, value-append, value-above, value-moved, length-⊠, value-⊠}
 use Rattle.basics.proofs.Laws.Below.{append-below, take-below}
 use Rattle.rs.proofs.Laws.Division.{divisor-length, parity-length, parity-bytes, quotient-exists, divisor-root}
 use Rattle.rs.proofs.Laws.Distance.{changes-via, changes-after, close-equal}
@@ -100,6 +100,9 @@ module _ (l : List ℕ) (n : length l ≡ 254) where
 
   pub as-long : length (parityOf (take 248 l)) ≡ length (drop 248 l)
   as-long = parity-length (take 248 l) ∙ sym last-six
+
+  pub left-six : length (parityOf (take 248 l) ⊞ drop 248 l) ≡ 6
+  left-six = length-⊞ _ _ as-long ∙ last-six
 
   -- it has the values of the block
   pub left-value : Bytes l → (j : ℕ) → j < 6 → valueAt (pow 2 j) (leftOf l) ≡ valueAt (pow 2 j) l

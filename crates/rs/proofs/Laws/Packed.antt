@@ -24,7 +24,7 @@ use Rattle.rs.proofs.Laws.Polynomial.{length-⊞, length-scale, ⊞-byt
 use Rattle.basics.proofs.Laws.Below.{at-below, append-below, drop-below}
 use Rattle.basics.proofs.Laws.Parts.{entries, part-entries, all-entries}
 use Rattle.rs.proofs.Laws.Division.{parity-length, parity-bytes, parity-step}
-use Rattle.rs.proofs.Laws.Codeword.{left-long, last-six, as-long}
+use Rattle.rs.proofs.Laws.Codeword.{left-long, last-six, as-long, left-six}
 
 -- ---- sums
 
@@ -147,7 +147,7 @@ remainder-sum l e h =
 -- and its six bytes are what the division leaves
 pub left-unpacked : (l : List ℕ) → length l ≡ 254 → Bytes l → unpack 6 (pack (parityOf (take 248 l) ⊞ drop 248 l)) ≡ leftOf l
 left-unpacked l e b =
-    unpack-pack 6 _ (length-⊞ _ _ (as-long l e) ∙ last-six l e) (⊞-bytes _ _ (parity-bytes (take 248 l)) (drop-below 256 248 l b))
+    unpack-pack 6 _ (left-six l e) (⊞-bytes _ _ (parity-bytes (take 248 l)) (drop-below 256 248 l b))
     ∙ sym (left-long l e)
 
 -- ---- a packed number is 0 exactly where its bytes are

@@ -9,7 +9,7 @@ use native.Mathlib.Nat.{mod-lt}
 use native.Mathlib.Omega.{arith}
 use borrow.Author.Tests.{eq-eqb, eqb-true, le-leb, lt-leb, leb-true}
 use lib.Dec.{leb, eqb}
-use Rattle.basics.proofs.Laws.Test.{lt-or-le}
+use Rattle.basics.proofs.Laws.Test.{lt-or-le, fails}
 use Rattle.refusal.specs.Number.{refusalPlain}
 use Rattle.refusal.specs.declared.Reason.the-variants.{Wide}
 use Rattle.refusal.specs.declared.Refusal.{Refusal}
@@ -66,11 +66,7 @@ checked-sound w e =
 
 -- a word whose answer is another is not
 pub not-sound : (w : ℕ) → (soundnessOf w ≡ Sound → ⊥) → isSound w ≡ false
-not-sound w n = by (isSound w) refl
-  where
-    by : (s : Bool) → isSound w ≡ s → isSound w ≡ false
-    by true e = absurd (n (sound-checked w e))
-    by false e = e
+not-sound w n = fails (isSound w) .1 (λ s. n (sound-checked w s))
 
 -- a word of ten bits is not refused
 pub narrow-unrefused : (w : ℕ) (why : Refusal) → w ≤ 1023 → soundnessOf w ≡ Refused why → ⊥
