@@ -20,8 +20,13 @@ module _ (n : ℕ) (ps : List (PK n)) (r : RK n) where
       (κs : Lfts n) (input : Dens κs ps) (a b : resT r κs .Denot) (s t : AtExit (endedOf n ps r) κs) → Allowed κs input a s → Allowed κs input b t
       → (bytes κs a ≡ bytes κs b) × (place κs a ≡ place κs b)
 
-  -- where a buffer is lent: any two answers are equal, and so is what is left in the buffer
-  abbrev pub OneOutcome : ((κs : Lfts n) → AtExit (endedOf n ps r) κs → List ℕ) → Out n ps r → Type 0
-  OneOutcome left Allowed =
-      (κs : Lfts n) (input : Dens κs ps) (a b : resT r κs .Denot) (s t : AtExit (endedOf n ps r) κs) → Allowed κs input a s → Allowed κs input b t
+  -- where a buffer is lent, of two contracts: an answer that the one allows and an answer that the other allows are equal, and so is what is left
+  -- in the buffer
+  abbrev pub SameOutcome : ((κs : Lfts n) → AtExit (endedOf n ps r) κs → List ℕ) → Out n ps r → Out n ps r → Type 0
+  SameOutcome left Allowed Other =
+      (κs : Lfts n) (input : Dens κs ps) (a b : resT r κs .Denot) (s t : AtExit (endedOf n ps r) κs) → Allowed κs input a s → Other κs input b t
       → (a ≡ b) × (left κs s ≡ left κs t)
+
+  -- so are any two that the same contract allows
+  abbrev pub OneOutcome : ((κs : Lfts n) → AtExit (endedOf n ps r) κs → List ℕ) → Out n ps r → Type 0
+  OneOutcome left Allowed = SameOutcome left Allowed Allowed

@@ -1,5 +1,6 @@
-// Runs what is compared and not proved: parities, repairs and checks that another program worked out, three changed words at both ends of the
-// codeword, the end of the history, and a day of a desk and a follower over a damaged line. Prints what was compared.
+// Runs what is compared and not proved: parities, repairs and checks that another program worked out, the same repairs by the plain repairer,
+// three changed words at both ends of the codeword, the end of the history, and a day of a desk and a follower over a damaged line. Prints what
+// was compared.
 mod day;
 mod desk_cases;
 mod outside;
@@ -13,7 +14,18 @@ fn line(word: &[u8], n: u64) {
 
 fn main() {
     line(b"parities equal, of 200: ", outside::parities());
-    line(b"deliveries equal, of 400: ", outside::deliveries());
+    let light = outside::deliveries(400, false);
+    line(b"deliveries equal, of 400: ", light.equal);
+    line(
+        b"both repairers agree, of 256 with a codeword within three: ",
+        light.alike,
+    );
+    let heavy = outside::deliveries(25, true);
+    line(
+        b"deliveries with four to eight changes equal, of 25: ",
+        heavy.equal,
+    );
+    line(b"both repairers agree, of 25: ", heavy.alike);
     line(
         b"fixed, first three protected words changed: ",
         desk_cases::fixed_with(7, 8, 9),

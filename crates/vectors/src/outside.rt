@@ -39,17 +39,40 @@ fn check_equal(vector: [u8; 509]) -> bool {
     (told.number == 0) & (told.codeword == whole)
 }
 
-// How many of 400 deliveries are repaired and checked as the vectors have it.
-pub(crate) fn deliveries() -> u64 {
+// Do both repairers say the same of the block, and leave the same?
+fn repaired_alike(vector: [u8; 509]) -> bool {
+    let mut quick = [0u8; 254];
+    bytes::copy(&vector[1..255], &mut quick);
+    let mut slow = quick;
+    let one = answers::checked(search::repair(&mut quick));
+    let other = answers::checked(plain::repair(&mut slow));
+    (one.number == other.number) & (one.place == other.place) & check::same(&quick, &slow)
+}
+
+// How many deliveries are repaired and checked as the vectors have it, and at how many both repairers agree.
+pub(crate) struct Compared {
+    pub equal: u64,
+    pub alike: u64,
+}
+
+// The next deliveries. The plain repairer runs on those that have a codeword near, and where `all` is set on each.
+pub(crate) fn deliveries(count: usize, all: bool) -> Compared {
     let mut vector = [0u8; 509];
     let mut equal: u64 = 0;
+    let mut alike: u64 = 0;
     let mut n: usize = 0;
-    while n < 400 {
+    while n < count {
         let got = io::read_full(0, &mut vector);
         if (got == 509) & repair_equal(vector) & check_equal(vector) {
             equal = std::num::wrapping_add_u64(equal, 1);
         }
+        let tried = (got == 509) & (all | (vector[0] == 1));
+        if tried {
+            if repaired_alike(vector) {
+                alike = std::num::wrapping_add_u64(alike, 1);
+            }
+        }
         n += 1;
     }
-    equal
+    Compared { equal, alike }
 }

@@ -16,6 +16,10 @@ lt-or-le a zero = inr (omega arith)
 lt-or-le zero (suc b) = inl (omega arith)
 lt-or-le (suc a) (suc b) = ⊎-elim (λ h. inl (omega arith)) (λ h. inr (omega arith)) (lt-or-le a b)
 
+-- what holds at each number below m, and at m, holds at each below m + 1
+pub below-more : (P : ℕ → Type 0) (m : ℕ) → ((l : ℕ) → l < m → P l) → P m → (l : ℕ) → l < m + 1 → P l
+below-more P m f p l h = ⊎-elim (λ (e : l ≡ m). subst P (sym e) p) (λ (b : l < m). f l b) (eq-or-lt-of-le (omega arith))
+
 -- ---- tests of two parts
 
 pub both-left : (a b : Bool) → T (a && b) → T a

@@ -1,9 +1,9 @@
--- Each call's answer is the only one that its contract allows, and so is what it leaves in a buffer that it was lent. `Learnt` is the
--- contract as its caller may use it.
+-- Each call's answer is the only one that its contract allows, and so is what it leaves in a buffer that it was lent; and the two repairers
+-- agree. `Learnt` is the contract as its caller may use it.
 -- Assumes nothing.
 use mathlib.Core.Path.{sym, _∙_}
 use denote.Ref.{now, ptr}
-use Rattle.promises.specs.Only.{OneAnswer, OnePart, OneOutcome}
+use Rattle.promises.specs.Only.{OneAnswer, OnePart, SameOutcome, OneOutcome}
 use Rattle.gf256.proofs.Laws.Tables.{powers-unique, logs-unique}
 use Rattle.gf256.proofs.Laws.Lent.{wheel-unique}
 use Rattle.refusal.proofs.number.Kinds as number-types
@@ -76,6 +76,8 @@ use Rattle.rs.proofs.check_codeword.Kinds as check-codeword-types
 use Rattle.rs.proofs.check_codeword.Reads as check-codeword-contract
 use Rattle.search.proofs.repair.Kinds as search-repair-types
 use Rattle.search.proofs.repair.Reads as search-repair-contract
+use Rattle.plain.proofs.repair.Kinds as plain-repair-types
+use Rattle.plain.proofs.repair.Reads as plain-repair-contract
 use Rattle.record.proofs.record_refusal.Kinds as record-refusal-types
 use Rattle.record.proofs.record_refusal.Reads as record-refusal-contract
 use Rattle.record.proofs.write_record.Kinds as write-record-types
@@ -297,6 +299,15 @@ check-codeword κs i a b s t p q = p ∙ sym q
 
 pub search-repair : OneOutcome 1 search-repair-types.ps search-repair-types.r (λ κs s. now (s .0)) search-repair-contract.Learnt
 search-repair κs i a b s t p q = (p .0 ∙ sym (q .0), p .1 ∙ sym (q .1))
+
+-- ---- plain
+
+pub plain-repair : OneOutcome 1 plain-repair-types.ps plain-repair-types.r (λ κs s. now (s .0)) plain-repair-contract.Learnt
+plain-repair κs i a b s t p q = (p .0 ∙ sym (q .0), p .1 ∙ sym (q .1))
+
+-- the two repairers agree
+pub repairers-agree : SameOutcome 1 search-repair-types.ps search-repair-types.r (λ κs s. now (s .0)) search-repair-contract.Learnt plain-repair-contract.Learnt
+repairers-agree κs i a b s t p q = (p .0 ∙ sym (q .0), p .1 ∙ sym (q .1))
 
 -- ---- rules
 

@@ -54,6 +54,8 @@ use Rattle.rs.proofs.check_codeword.Kinds as check-codeword-types
 use Rattle.rs.proofs.check_codeword.Reads as check-codeword-contract
 use Rattle.search.proofs.repair.Kinds as search-repair-types
 use Rattle.search.proofs.repair.Reads as search-repair-contract
+use Rattle.plain.proofs.repair.Kinds as plain-repair-types
+use Rattle.plain.proofs.repair.Reads as plain-repair-contract
 use Rattle.items.proofs.item_place.Kinds as item-place-types
 use Rattle.items.proofs.item_place.Reads as item-place-contract
 use Rattle.items.proofs.item_refusal.Kinds as item-refusal-types
@@ -138,7 +140,7 @@ check-word κs i a s p = rw p (check-right _)
 pub check-words : PlacesRight 1 check-words-types.ps check-words-types.r 255 (λ κs. refusalIn) check-words-contract.Learnt
 check-words κs i a s p = rw (p, refusal-in) (words-right _)
 
--- ---- rs and search
+-- ---- rs, search and plain
 
 pub remainder : PlacesRight 1 remainder-types.ps remainder-types.r 0 (λ κs a. refusalIn (a .checked)) remainder-contract.Learnt
 unfolding dividedOf
@@ -149,6 +151,9 @@ check-codeword κs i a s p = rw (p, check-said) (block-right _)
 
 pub search-repair : PlacesRight 1 search-repair-types.ps search-repair-types.r 0 (λ κs. refusalIn) search-repair-contract.Learnt
 search-repair κs i a s p = rw (p .0, refusal-in) (decode-right _)
+
+pub plain-repair : PlacesRight 1 plain-repair-types.ps plain-repair-types.r 0 (λ κs. refusalIn) plain-repair-contract.Learnt
+plain-repair κs i a s p = rw (p .0, refusal-in) (decode-right _)
 
 -- ---- items
 

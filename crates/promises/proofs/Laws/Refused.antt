@@ -50,6 +50,8 @@ use Rattle.anc.proofs.sound_words.Kinds as sound-words-types
 use Rattle.anc.proofs.sound_words.Reads as sound-words-contract
 use Rattle.search.proofs.repair.Kinds as search-repair-types
 use Rattle.search.proofs.repair.Reads as search-repair-contract
+use Rattle.plain.proofs.repair.Kinds as plain-repair-types
+use Rattle.plain.proofs.repair.Reads as plain-repair-contract
 use Rattle.record.proofs.write_record.Kinds as write-record-types
 use Rattle.record.proofs.write_record.Reads as write-record-contract
 use Rattle.record.proofs.put_item.Kinds as put-item-types
@@ -144,6 +146,9 @@ put-back κs i a s p (why, e) = p .1 ∙ kept _ why _ _ (checked-said (backRefus
 
 pub search-repair : RefusedKeeps 1 search-repair-types.ps search-repair-types.r (λ κs. Tells refusalIn) (λ κs i. now (i .0)) (λ κs s. now (s .0)) search-repair-contract.Learnt
 search-repair κs i a s p (why, e) = p .1 ∙ refused-keeps (now (i .0)) why (checked-said (decodeRefusal (now (i .0))) a why (p .0) e)
+
+pub plain-repair : RefusedKeeps 1 plain-repair-types.ps plain-repair-types.r (λ κs. Tells refusalIn) (λ κs i. now (i .0)) (λ κs s. now (s .0)) plain-repair-contract.Learnt
+plain-repair κs i a s p (why, e) = p .1 ∙ refused-keeps (now (i .0)) why (checked-said (decodeRefusal (now (i .0))) a why (p .0) e)
 
 pub low-bytes : RefusedKeeps 2 low-bytes-types.ps low-bytes-types.r (λ κs. Tells refusalIn) (λ κs i. now (i .1 .0)) (λ κs s. now (s .1 .0)) low-bytes-contract.Learnt
 unfolding fillLeaves

@@ -1,13 +1,13 @@
--- The laws of polynomials as lists: lengths, bytes, the group of sums, and the value at x of a sum, a multiple, a product and a list
--- joined of two.
+-- The laws of polynomials as lists: lengths, bytes, the group of sums, and the value at x of a sum, a multiple, a product, a list joined of
+-- two and a list with one coefficient changed.
 -- Assumes nothing.
 use mathlib.Core.Path.{_≡_, refl, sym, ap, ap₂, _∙_}
 use mathlib.Core.List.{List, [], _∷_, _++_}
 use Prim.Native.Nat.{ℕ, zero, suc, pred, _+_, _<_}
-use native.Mathlib.Nat.{suc-inj, suc-add}
+use native.Mathlib.Nat.{suc-inj, suc-add, zero-add}
 use native.Mathlib.Omega.{arith}
 use lib.Dec.{lit<}
-use lib.ListN.{length, getD, length-append, length-replicate}
+use lib.ListN.{length, getD, set, length-append, length-replicate, length-set}
 use Rattle.gf256.specs.Field.{_⊕_, _⊗_, pow}
 use Rattle.gf256.proofs.Laws.Sum.{⊕-assoc, ⊕-comm, ⊕-self, ⊕-zero-l, ⊕-zero-r, ⊕-four, ⊕-lt}
 use Rattle.gf256.proofs.Laws.Product.{⊗-lt, ⊗-comm, ⊗-assoc, ⊗-⊕-l, ⊗-⊕-r, ⊗-zero-l, ⊗-zero-r, ⊗-one-r, pow-add}
@@ -139,6 +139,18 @@ unfolding valueAt pow
 value-snoc x l d h =
     value-append x l (d ∷ [])
     ∙ ap₂ _⊕_ (sym (⊗-assoc (valueAt x l) x 1) ∙ ⊗-one-r _ (⊗-lt _ _)) (⊕-zero-r _ ∙ ⊗-one-r d h)
+
+head-ring : (d y p z : ℕ) → (d ⊕ y) ⊗ p ⊕ z ≡ d ⊗ p ⊕ z ⊕ y ⊗ p
+head-ring d y p z = simp ring
+
+-- y comes in at the coefficient of x^k
+pub value-set : (x : ℕ) (l : List ℕ) (i k y : ℕ) → length l ≡ suc (i + k) → valueAt x (set l i (getD l i 0 ⊕ y)) ≡ valueAt x l ⊕ y ⊗ pow x k
+unfolding valueAt
+value-set x [] i k y e = absurd (omega arith)
+value-set x (d ∷ l) zero k y e =
+    head-ring d y (pow x (length l)) (valueAt x l) ∙ ap (λ (n : ℕ). d ⊗ pow x (length l) ⊕ valueAt x l ⊕ y ⊗ pow x n) (suc-inj e ∙ zero-add k)
+value-set x (d ∷ l) (suc i) k y e =
+    ap₂ (λ (n z : ℕ). d ⊗ pow x n ⊕ z) (length-set l i _) (value-set x l i k y (suc-inj e ∙ suc-add i k)) ∙ sym (⊕-assoc _ _ _)
 
 -- ---- the product
 

@@ -8,10 +8,10 @@ use Rattle.vectors.proofs.outside.deliveries.Statement.{statement}
 use Rattle.vectors.proofs.outside.deliveries.Tie as tie
 
 abbrev Inv-loop : tie.InvT-loop
-Inv-loop vector₀ equal₀ n₀ vector equal n = (n ≤ 400) × (length vector ≡ 509)
+Inv-loop count all vector₀ equal₀ alike₀ n₀ vector equal alike n = (n ≤ count) × (length vector ≡ 509)
 
 abbrev μ-loop : tie.MeasureT-loop
-μ-loop vector₀ equal₀ n₀ vector equal n = 400 - n
+μ-loop count all vector₀ equal₀ alike₀ n₀ vector equal alike n = count - n
 
 pub deliveries-spec : {M : Type 1} → statement M
 deliveries-spec =
@@ -23,6 +23,9 @@ deliveries-spec =
     (λ c. search needs)
     (λ c κs. search needs)
     (λ c κs. search needs)
+    (λ c κs. search needs)
+    (λ c κs. search needs)
+    (λ c. search needs)
     (λ c κs. search needs)
     (λ c κs. search needs)
     (λ c. search needs)

@@ -1,0 +1,5 @@
+pub mod Sums
+pub mod Solve
+pub mod Judge
+pub mod Try
+pub mod Repair
