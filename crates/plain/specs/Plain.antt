@@ -48,6 +48,10 @@ abbrev pub FirstFrom : List ℕ → ℕ → List ℕ → List ℕ → Type 0
 FirstFrom [] low is s = Unit {0}
 FirstFrom (j ∷ js) low is s = (low ≤ j) × ((i : ℕ) → low ≤ i → i < j → NoneFrom (length js) (i + 1) (is ++ (i ∷ [])) s) × FirstFrom js (j + 1) (is ++ (j ∷ [])) s
 
+-- the values a, b and c at the places i, j and k have the six sums
+abbrev pub Has : List ℕ → ℕ → ℕ → ℕ → ℕ → ℕ → ℕ → Type 0
+Has s i a j b k c = Explains 6 (termsAt (element i ∷ element j ∷ element k ∷ []) (a ∷ b ∷ c ∷ [])) s
+
 -- whether the terms have the six sums
 pub record Judges (es : List Term) (s : List ℕ) (r : Bool) : Type 0 where
   pub sound : r ≡ true → Explains 6 es s
@@ -58,7 +62,7 @@ pub record Right (s : List ℕ) (e : Errors) : Type 0 where
   pub first : e .i < 254
   pub second : e .j < 254
   pub third : e .k < 254
-  pub sums : Explains 6 (termsAt (element (e .i) ∷ element (e .j) ∷ element (e .k) ∷ []) (e .a ∷ e .b ∷ e .c ∷ [])) s
+  pub sums : Has s (e .i) (e .a) (e .j) (e .b) (e .k) (e .c)
 
 -- three places with a value each, said to be right
 abbrev pub errorsOf : ℕ → ℕ → ℕ → ℕ → ℕ → ℕ → Errors

@@ -10,7 +10,7 @@ ghost use Rattle.gf256.specs.Field.{_⊕_, _⊗_, over};
 ghost use Rattle.gf256.specs.Lent.{Wheel};
 ghost use Rattle.gf256.specs.Tables.{LogTable};
 ghost use Rattle.rs.specs.Polynomial.{valueAt};
-ghost use Rattle.plain.specs.Plain.{Sums, element, termsAt, Explains, Solves, Unexplained, Judges, errorsOf, Stands, Settles};
+ghost use Rattle.plain.specs.Plain.{Sums, element, termsAt, Solves, Unexplained, Has, Judges, errorsOf, Stands, Settles};
 
 // Errors at up to three places, and whether they have all six sums; a value of 0 is no error.
 pub(crate) struct Errors {
@@ -182,7 +182,7 @@ fn judged(
     c: u8,
 ) -> Errors
     requires { ⌜ Wheel (now wheel) × LogTable (now logs) × (i < 254) × (j < 254) × (k < 254) ⌝ }
-    ensures { λ r. ⌜ Settles (r ≡ errorsOf i a j b k c) (Explains 6 (termsAt (element i ∷ element j ∷ element k ∷ []) (a ∷ b ∷ c ∷ [])) s → ⊥) s r ⌝ }
+    ensures { λ r. ⌜ Settles (r ≡ errorsOf i a j b k c) (Has s i a j b k c → ⊥) s r ⌝ }
 {
     let x = element(wheel, i);
     let y = element(wheel, j);

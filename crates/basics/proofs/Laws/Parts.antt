@@ -3,7 +3,7 @@
 use mathlib.Core.Path.{_≡_, refl, sym, ap, ap₂, _∙_}
 use mathlib.Core.List.{List, [], _∷_, _++_, append-nil}
 use Prim.Native.Nat.{ℕ, zero, suc, _+_, _≤_, _<_}
-use native.Mathlib.Nat.{not-suc-le-zero, le-of-suc-le-suc, min-le-left}
+use native.Mathlib.Nat.{not-suc-le-zero, le-of-suc-le-suc, min-le-left, add-zero, add-suc, suc-add}
 use native.Mathlib.Numerals.{add-one}
 use native.Mathlib.Omega.{arith}
 use lib.ListN.{length, getD, set, take, drop, drop-of-length-le, length-set, length-take, length-drop}
@@ -63,6 +63,12 @@ one-more n i l r h e = rw (drop-cons l i 0 h) (ap (λ (m : List ℕ). getD l i 0
 pub part-entries : (n i : ℕ) (l : List ℕ) → i + n ≤ length l → take n (drop i l) ≡ entries n i l
 part-entries zero i l h = refl
 part-entries (suc n) i l h = one-more n i l (entries n (suc i) l) (omega arith) (part-entries n (suc i) l (omega arith))
+
+-- each of them stands in the list
+pub entries-at : (n i m : ℕ) (l : List ℕ) → m < n → getD (entries n i l) m 0 ≡ getD l (i + m) 0
+entries-at zero i m l h = absurd (not-suc-le-zero h)
+entries-at (suc n) i zero l h = ap (λ (k : ℕ). getD l k 0) (sym (add-zero i))
+entries-at (suc n) i (suc m) l h = entries-at n (suc i) m l (le-of-suc-le-suc h) ∙ ap (λ (k : ℕ). getD l k 0) (suc-add i m ∙ sym (add-suc i m))
 
 -- a list is all its entries
 pub all-entries : (n : ℕ) (l : List ℕ) → length l ≡ n → entries n 0 l ≡ l

@@ -3,17 +3,17 @@
 use mathlib.Core.Path.{_≡_, refl, sym, ap, _∙_, subst, subst₃}
 use mathlib.Core.Bool.{Bool, true, false}
 use mathlib.Core.List.{List, [], _∷_, _++_, map}
-use Prim.Native.Nat.{ℕ, zero, suc, _+_, _<_, _≤_}
-use native.Mathlib.Nat.{add-zero, zero-add, add-suc, suc-add, le-of-suc-le-suc}
+use Prim.Native.Nat.{ℕ, suc, _+_, _<_, _≤_}
+use native.Mathlib.Nat.{zero-add}
 use native.Mathlib.Omega.{arith}
 use lib.ListN.{length, getD, length-map}
 use Rattle.basics.proofs.Laws.Test.{never, below-more}
-use Rattle.basics.proofs.Laws.Parts.{entries}
+use Rattle.basics.proofs.Laws.Parts.{entries, entries-at}
 use Rattle.gf256.specs.Field.{_⊕_, _⊗_, pow}
 use Rattle.gf256.specs.PowerSum.{Term, powerSum}
 use Rattle.gf256.proofs.Laws.Sum.{⊕-zero-l}
 use Rattle.gf256.proofs.Laws.Product.{⊗-zero-l}
-use Rattle.plain.specs.Plain.{element, termsAt, Explains, Solves, Unexplained, NoneFrom, FirstFrom, Judges, errorsOf, Stands, FirstOf, First, Settles}
+use Rattle.plain.specs.Plain.{element, termsAt, Explains, Solves, Unexplained, NoneFrom, FirstFrom, Has, Judges, errorsOf, Stands, FirstOf, First, Settles}
 use Rattle.plain.proofs.Laws.Solve.{one-solved}
 use Rattle.plain.specs.declared.solver.Errors.{Errors}
 
@@ -23,12 +23,6 @@ use Rattle.plain.specs.declared.solver.Errors.{Errors}
 zero-term : (x : ℕ) (es : List Term) (s : List ℕ) → Explains 6 es s → Explains 6 (record { X = x; Y = 0 } ∷ es) s
 unfolding powerSum
 zero-term x es s E m h = E m h ∙ sym (ap (λ (v : ℕ). v ⊕ powerSum es m) (⊗-zero-l (pow x m)) ∙ ⊕-zero-l _)
-
--- the entries of a run, one by one
-entries-at : (n i m : ℕ) (s : List ℕ) → m < n → getD (entries n i s) m 0 ≡ getD s (i + m) 0
-entries-at zero i m s h = absurd (omega arith)
-entries-at (suc n) i zero s h = ap (λ (k : ℕ). getD s k 0) (sym (add-zero i))
-entries-at (suc n) i (suc m) s h = entries-at n (suc i) m s (le-of-suc-le-suc h) ∙ ap (λ (k : ℕ). getD s k 0) (suc-add i m ∙ sym (add-suc i m))
 
 -- no values but the solved ones can have all six sums
 only-solved : (is s ys : List ℕ) → length is ≤ 6 → Solves (map element is) (entries (length is) 0 s) ys
@@ -48,7 +42,7 @@ settles-so A B C D s e f g S = record { right = S .right; found = λ q. f (S .fo
 pub judged-settles : (s : List ℕ) (i a j b k c x y z : ℕ) (r : Bool) → x ≡ element i → y ≡ element j → z ≡ element k → i < 254 → j < 254 → k < 254
     → Judges (termsAt (x ∷ y ∷ z ∷ []) (a ∷ b ∷ c ∷ [])) s r
     → (let e : Errors = record { explained = r; i = i; a = a; j = j; b = b; k = k; c = c } in
-    Settles (e ≡ errorsOf i a j b k c) (Explains 6 (termsAt (element i ∷ element j ∷ element k ∷ []) (a ∷ b ∷ c ∷ [])) s → ⊥) s e)
+    Settles (e ≡ errorsOf i a j b k c) (Has s i a j b k c → ⊥) s e)
 judged-settles s i a j b k c x y z r ex ey ez hi hj hk J =
     let K = subst₃ (λ (u v w : ℕ). Judges (termsAt (u ∷ v ∷ w ∷ []) (a ∷ b ∷ c ∷ [])) s r) ex ey ez J in
     record {
@@ -57,34 +51,32 @@ judged-settles s i a j b k c x y z r ex ey ez hi hj hk J =
       none = λ q E. never (sym (K .complete E) ∙ q);
     }
 
--- the errors do not have the six sums
-abbrev Fails : List ℕ → ℕ → ℕ → ℕ → ℕ → ℕ → ℕ → Type 0
-Fails s i a j b k c = Explains 6 (termsAt (element i ∷ element j ∷ element k ∷ []) (a ∷ b ∷ c ∷ [])) s → ⊥
-
 -- no place, one place, two and three; where fewer than three are tried, errors of 0 stand before them
 module _ (s : List ℕ) (e : Errors) where
-  pub tried-none : (i : ℕ) → Settles (e ≡ errorsOf i 0 i 0 i 0) (Fails s i 0 i 0 i 0) s e → Settles (Stands [] e) (Unexplained [] s) s e
-  tried-none i =
-      settles-so _ _ _ _ s e (λ p. subst (Stands []) (sym p) (record { places = refl; idle = refl }))
-      (λ none ys l b E. none (zero-term _ _ s (zero-term _ _ s (zero-term (element i) [] s E))))
+  -- a try that is wrong leaves the places unexplained
+  tried : (is : List ℕ) (d : Errors) (Wrong : Type 0) → Stands is d → (Wrong → Unexplained is s) → Settles (e ≡ d) Wrong s e → Settles (Stands is e) (Unexplained is s) s e
+  tried is d Wrong S f = settles-so _ _ _ _ s e (λ p. subst (Stands is) (sym p) S) f
 
-  pub tried-one : (i : ℕ) → Settles (e ≡ errorsOf i 0 i 0 i (getD s 0 0)) (Fails s i 0 i 0 i (getD s 0 0)) s e → Settles (Stands (i ∷ []) e) (Unexplained (i ∷ []) s) s e
+  pub tried-none : (i : ℕ) → Settles (e ≡ errorsOf i 0 i 0 i 0) (Has s i 0 i 0 i 0 → ⊥) s e → Settles (Stands [] e) (Unexplained [] s) s e
+  tried-none i =
+      tried [] _ _ (record { places = refl; idle = refl }) (λ none ys l b E. none (zero-term _ _ s (zero-term _ _ s (zero-term (element i) [] s E))))
+
+  pub tried-one : (i : ℕ) → Settles (e ≡ errorsOf i 0 i 0 i (getD s 0 0)) (Has s i 0 i 0 i (getD s 0 0) → ⊥) s e → Settles (Stands (i ∷ []) e) (Unexplained (i ∷ []) s) s e
   tried-one i =
-      settles-so _ _ _ _ s e (λ p. subst (Stands (i ∷ [])) (sym p) (record { places = refl; idle = refl }))
+      tried (i ∷ []) _ _ (record { places = refl; idle = refl })
       (λ none. only-solved (i ∷ []) s (getD s 0 0 ∷ []) (omega arith) (one-solved (element i) (getD s 0 0))
       (λ E. none (zero-term (element i) _ s (zero-term (element i) (termsAt (element i ∷ []) (getD s 0 0 ∷ [])) s E))))
 
-  pub tried-two : (i j b c : ℕ) → Solves (element i ∷ element j ∷ []) (entries 2 0 s) (b ∷ c ∷ [])
-      → Settles (e ≡ errorsOf i 0 i b j c) (Fails s i 0 i b j c) s e → Settles (Stands (i ∷ j ∷ []) e) (Unexplained (i ∷ j ∷ []) s) s e
+  pub tried-two : (i j b c : ℕ) → Solves (element i ∷ element j ∷ []) (entries 2 0 s) (b ∷ c ∷ []) → Settles (e ≡ errorsOf i 0 i b j c) (Has s i 0 i b j c → ⊥) s e
+      → Settles (Stands (i ∷ j ∷ []) e) (Unexplained (i ∷ j ∷ []) s) s e
   tried-two i j b c S =
-      settles-so _ _ _ _ s e (λ p. subst (Stands (i ∷ j ∷ [])) (sym p) (record { places = refl; idle = refl }))
+      tried (i ∷ j ∷ []) _ _ (record { places = refl; idle = refl })
       (λ none. only-solved (i ∷ j ∷ []) s (b ∷ c ∷ []) (omega arith) S (λ E. none (zero-term (element i) (termsAt (element i ∷ element j ∷ []) (b ∷ c ∷ [])) s E)))
 
   pub tried-three : (i j k a b c : ℕ) → Solves (element i ∷ element j ∷ element k ∷ []) (entries 3 0 s) (a ∷ b ∷ c ∷ [])
-      → Settles (e ≡ errorsOf i a j b k c) (Fails s i a j b k c) s e → Settles (Stands (i ∷ j ∷ k ∷ []) e) (Unexplained (i ∷ j ∷ k ∷ []) s) s e
+      → Settles (e ≡ errorsOf i a j b k c) (Has s i a j b k c → ⊥) s e → Settles (Stands (i ∷ j ∷ k ∷ []) e) (Unexplained (i ∷ j ∷ k ∷ []) s) s e
   tried-three i j k a b c S =
-      settles-so _ _ _ _ s e (λ p. subst (Stands (i ∷ j ∷ k ∷ [])) (sym p) (record { places = refl; idle = refl }))
-      (λ none. only-solved (i ∷ j ∷ k ∷ []) s (a ∷ b ∷ c ∷ []) (omega arith) S none)
+      tried (i ∷ j ∷ k ∷ []) _ _ (record { places = refl; idle = refl }) (only-solved (i ∷ j ∷ k ∷ []) s (a ∷ b ∷ c ∷ []) (omega arith) S)
 
 -- ---- tries in rising order
 
