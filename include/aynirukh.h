@@ -23,7 +23,7 @@
  *     6   the header is not sound, or its b6 to b4 are not zero
  *     7   correction off: a data word is not sound; the place is that of the first one, 1 to 248
  *     8   correction off: one of the last six words is not 0x200
- *     9   correction on: no codeword within three bytes
+ *     9   correction on: no codeword, by the words that are not sound or within three bytes; see ay_repair
  *    10   the checksum word is not that of the words as they are read
  *    11   item 1, station code        breaks its rule
  *    12   item 2, time                breaks its rule
@@ -206,7 +206,9 @@ AyPacket ay_read_packet(const uint16_t *words, size_t words_len);
 /* Reads 262 words, and leaves their record of 248 bytes in out. Refuses 1 to 14, 23. */
 AyPacket ay_read_packet_into(const uint16_t *words, size_t words_len, uint8_t *out, size_t out_len);
 
-/* Leaves in out the 254 sound words of the codeword that the protected words are within three bytes of. Refuses 21, 2, 9, 23. */
+/* Leaves in out the 254 sound words of the codeword that the protected words are read as. Say that f of them are not sound, and that of the others e carry
+ * another byte than the codeword: it is the codeword with 2e + f at most 6, and where there is none the one that differs from the low bytes of all
+ * 254 in at most three. Refuses 21, 2, 9, 23. */
 AyRepaired ay_repair(const uint16_t *words, size_t words_len, uint16_t *out, size_t out_len);
 
 /* The check of a receiver that never repairs: says whether 254 bytes, which the protected words carry as their low bytes, are a codeword. With one

@@ -1,5 +1,5 @@
-/* Times the archive against libfec in one run, on the same bytes: best of several rounds over many blocks. Prints a table of microseconds and
- * ratios, what n packets cost for n from 10^3 to 10^6, and in the last line whether each figure that was asked for is reached. */
+/* Times the archive against libfec in one run, on the same bytes and erasures: best of several rounds over many blocks. Prints a table of
+ * microseconds and ratios, what n packets cost for n from 10^3 to 10^6, and in the last line whether each figure that was asked for is reached. */
 #define _POSIX_C_SOURCE 199309L
 #include <fec.h>
 #include <stdio.h>
@@ -9,7 +9,7 @@
 
 #include "../include/aynirukh.h"
 
-enum { BLOCKS = 512, ROUNDS = 200, DATA = 248, BLOCK = 254, KINDS = 5 };
+enum { BLOCKS = 512, ROUNDS = 200, DATA = 248, BLOCK = 254, KINDS = 5, MARKED = 7 };
 
 static uint8_t record[BLOCKS][DATA];
 static uint8_t sent[BLOCKS][BLOCK];
@@ -19,6 +19,22 @@ static uint16_t packet[BLOCKS][AY_PACKET_WORDS];
 static uint16_t packet_off[BLOCKS][AY_PACKET_WORDS];
 static uint8_t field[BLOCKS][AY_FIELD_BYTES];
 static const int changes_of[KINDS] = {0, 1, 2, 3, 5};
+
+/* what is delivered with marks, that is with unsound words: how many, how many of them over another byte, and how many sound words of another byte.
+ * Of the first three, which the marks settle, libfec is told as erasures. The next three are settled by the bytes alone, and the last by nothing. */
+enum { SIX_ERASED, TWO_ERASED, FOUR_ERASED, ONE_MARK, MARKS_ALONE, MARKS_OVER_WRONG, HOPELESS };
+static const struct { const char *name; int marks, wrong, silent; } marked_of[MARKED] = {
+    [SIX_ERASED] = {"six erasures", 6, 6, 0},
+    [TWO_ERASED] = {"two erasures and two errors", 2, 2, 2},
+    [FOUR_ERASED] = {"four erasures and one error", 4, 4, 1},
+    [ONE_MARK] = {"one mark and three errors", 1, 0, 3},
+    [MARKS_ALONE] = {"eight marks over right bytes", 8, 0, 0},
+    [MARKS_OVER_WRONG] = {"eight marks, three over wrong bytes", 8, 3, 0},
+    [HOPELESS] = {"four marks, three errors, hopeless", 4, 4, 3},
+};
+static uint8_t marked[MARKED][BLOCKS][BLOCK];
+static uint16_t marked_words[MARKED][BLOCKS][BLOCK];
+static int places[MARKED][BLOCKS][8];
 static volatile unsigned sink;
 
 static uint64_t state = 88172645463325252u;
@@ -46,20 +62,38 @@ static void fill(uint8_t *r)
         r[i] = (uint8_t)next();
 }
 
-/* other values in that many different places */
-static void damage(uint8_t *block, int changes)
+/* other values in that many different places, which are left in place */
+static void damage(uint8_t *block, int changes, int place[8])
 {
-    int places[8];
     for (int i = 0; i < changes; i++) {
         int fresh;
         do {
-            places[i] = (int)(next() % BLOCK);
+            place[i] = (int)(next() % BLOCK);
             fresh = 1;
             for (int j = 0; j < i; j++)
-                fresh &= places[j] != places[i];
+                fresh &= place[j] != place[i];
         } while (!fresh);
-        block[places[i]] ^= (uint8_t)(1 + next() % 255);
+        block[place[i]] ^= (uint8_t)(1 + next() % 255);
     }
+}
+
+static void to_words(const uint8_t *block, uint16_t *words)
+{
+    for (int i = 0; i < BLOCK; i++)
+        words[i] = ay_word_of(block[i]);
+}
+
+/* the marks stand in the first of the places; those that are over no other byte get theirs back */
+static void mark(int kind, int b)
+{
+    int f = marked_of[kind].marks, *place = places[kind][b];
+    memcpy(marked[kind][b], sent[b], BLOCK);
+    damage(marked[kind][b], f + marked_of[kind].silent, place);
+    for (int i = marked_of[kind].wrong; i < f; i++)
+        marked[kind][b][place[i]] = sent[b][place[i]];
+    to_words(marked[kind][b], marked_words[kind][b]);
+    for (int i = 0; i < f; i++)
+        marked_words[kind][b][place[i]] ^= (uint16_t)((1 + next() % 3) << 8);
 }
 
 typedef void (*job)(int kind, int block);
@@ -113,6 +147,19 @@ static void our_repair(int kind, int b)
     sink += r.fixed + out[0];
 }
 
+static void our_repair_marked(int kind, int b)
+{
+    uint16_t out[BLOCK];
+    AyRepaired r = ay_repair(marked_words[kind][b], BLOCK, out, BLOCK);
+    sink += r.fixed + out[0];
+}
+
+static int refused(int kind, int b)
+{
+    uint16_t out[BLOCK];
+    return ay_repair(marked_words[kind][b], BLOCK, out, BLOCK).number == AY_BEYOND_REPAIR;
+}
+
 static void our_check(int kind, int b)
 {
     sink += ay_check_codeword(damaged[kind][b], BLOCK).codeword;
@@ -123,6 +170,16 @@ static void fec_decode(int kind, int b)
     uint8_t block[BLOCK];
     memcpy(block, damaged[kind][b], BLOCK);
     sink += (unsigned)decode_rs_char(rs, block, NULL, 0) + block[0];
+}
+
+/* a place counts from 0 in the 254 bytes for libfec too; it writes over the places that it is told */
+static void fec_erase(int kind, int b)
+{
+    uint8_t block[BLOCK];
+    int erased[8];
+    memcpy(erased, places[kind][b], sizeof erased);
+    memcpy(block, marked[kind][b], BLOCK);
+    sink += (unsigned)decode_rs_char(rs, block, erased, marked_of[kind].marks) + block[0];
 }
 
 /* microseconds for one block, best of the rounds */
@@ -149,17 +206,17 @@ static void row(const char *name, double ours, double theirs, double wanted)
     int reached = ratio >= wanted;
     figures++;
     missed += !reached;
-    printf("%-34s %8.3f %8.3f %8.2f   at least %.2f%s\n", name, ours, theirs, ratio, wanted, reached ? "" : "   missed");
+    printf("%-36s %8.3f %8.3f %8.2f   at least %.2f%s\n", name, ours, theirs, ratio, wanted, reached ? "" : "   missed");
 }
 
-/* so much of what a clean repair takes, and no more was asked for */
-static void part(const char *name, double ours, double clean, double wanted)
+/* so much of what another call takes, and no more was asked for */
+static void part(const char *name, double ours, double whole, const char *of, double wanted)
 {
-    double ratio = ours / clean;
+    double ratio = ours / whole;
     int reached = ratio <= wanted;
     figures++;
     missed += !reached;
-    printf("%-34s %8.3f, that is %.2f of a clean repair   at most %.2f%s\n", name, ours, ratio, wanted, reached ? "" : "   missed");
+    printf("%-36s %8.3f, that is %.2f of a %s   at most %.2f%s\n", name, ours, ratio, of, wanted, reached ? "" : "   missed");
 }
 
 int main(void)
@@ -170,6 +227,7 @@ int main(void)
         return 1;
     }
     for (int b = 0; b < BLOCKS; b++) {
+        int place[8];
         fill(record[b]);
         memcpy(sent[b], record[b], DATA);
         encode_rs_char(rs, sent[b], sent[b] + DATA);
@@ -187,12 +245,22 @@ int main(void)
         }
         for (int k = 0; k < KINDS; k++) {
             memcpy(damaged[k][b], sent[b], BLOCK);
-            damage(damaged[k][b], changes_of[k]);
-            for (int i = 0; i < BLOCK; i++)
-                damaged_words[k][b][i] = ay_word_of(damaged[k][b][i]);
+            damage(damaged[k][b], changes_of[k], place);
+            to_words(damaged[k][b], damaged_words[k][b]);
         }
     }
-    printf("%-34s %8s %8s %8s\n", "microseconds a block", "ours", "libfec", "ratio");
+    /* with four marks almost any bytes are near some codeword, and repair gives that one: hopeless is what it refuses */
+    for (int k = 0; k < MARKED; k++)
+        for (int b = 0; b < BLOCKS; b++) {
+            do
+                mark(k, b);
+            while (k == HOPELESS && !refused(k, b));
+            if (k != HOPELESS && refused(k, b)) {
+                puts("bench: a block with marks is refused");
+                return 1;
+            }
+        }
+    printf("%-36s %8s %8s %8s\n", "microseconds a block", "ours", "libfec", "ratio");
     row("write a packet / encode", time_of(our_write, 0), time_of(fec_encode, 0), 4);
     row("pack a field / encode", time_of(our_pack, 0), time_of(fec_encode, 0), 10);
     row("unpack a field / encode", time_of(our_unpack, 0), time_of(fec_encode, 0), 10);
@@ -201,13 +269,22 @@ int main(void)
     row("repair, clean / decode", clean, time_of(fec_decode, 0), 2);
     row("repair, one word / decode", time_of(our_repair, 1), time_of(fec_decode, 1), 2);
     row("repair, two words / decode", time_of(our_repair, 2), time_of(fec_decode, 2), 2);
-    row("repair, three words / decode", time_of(our_repair, 3), time_of(fec_decode, 3), 2);
+    double three = time_of(our_repair, 3);
+    row("repair, three words / decode", three, time_of(fec_decode, 3), 2);
     row("repair, hopeless / decode", time_of(our_repair, 4), time_of(fec_decode, 4), 1);
+    double with_marks[MARKED];
+    for (int k = 0; k < MARKED; k++)
+        with_marks[k] = time_of(our_repair_marked, k);
+    row("six erasures / decode", with_marks[SIX_ERASED], time_of(fec_erase, SIX_ERASED), 2);
+    row("two erasures and two errors / decode", with_marks[TWO_ERASED], time_of(fec_erase, TWO_ERASED), 2);
+    row("four erasures and one error / decode", with_marks[FOUR_ERASED], time_of(fec_erase, FOUR_ERASED), 2);
     double check = time_of(our_check, 0);
     row("check, a codeword / decode", check, time_of(fec_decode, 0), 2);
     row("check, none / decode", time_of(our_check, 4), time_of(fec_decode, 4), 2);
-    part("check a codeword", check, clean, 1);
-    part("read a clean packet", time_of(our_read, 0), clean, 1.5);
+    part("check a codeword", check, clean, "clean repair", 1);
+    part("read a clean packet", time_of(our_read, 0), clean, "clean repair", 1.5);
+    for (int k = 0; k < MARKED; k++)
+        part(marked_of[k].name, with_marks[k], three, "repair of three words", 2);
     for (long n = 1000; n <= 1000000; n *= 10) {
         double start = now();
         for (long i = 0; i < n; i++) {

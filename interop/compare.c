@@ -1,11 +1,14 @@
 /* Compares the archive with libfec, with a check of our own, and with GStreamer's encoder of ancillary data:
  *   - deliveries of 254 words: clean, with one to eight changed bytes, with wrong upper bits, and junk; repair must give exactly what the check
- *     finds, and agree with libfec wherever libfec gives a codeword within three bytes or gives up; and the check of a codeword must say yes
- *     exactly where our six sums are 0 and libfec finds nothing to change;
+ *     finds; under either rule libfec, which is told of the places that unsound words mark, must find the same codeword, or none that the rule
+ *     takes; and the check of a codeword must say yes exactly where our six sums are 0 and libfec finds nothing to change;
+ *   - marked deliveries, held in the same way: every number of marks from none to eight with every number of silent changes from none to four; marks
+ *     over bytes that are mostly right; and words between two codewords that are seven bytes apart, where one rule ends and the other begins;
  *   - packets: the 262 words of random records must be those of GStreamer's encoder, and must read back;
  *   - every number of 16 bits through the word check, and packets with correction off in which upper bits are wrong: what is wrong, and of which
  *     word, must be as counted here.
- * The last line says how many of each were equal; the exit status is 0 only if all were. */
+ * A line for each sort of marked delivery says which rule repaired how many. The last line says how many of each were equal; the exit status is 0
+ * only if all were. */
 #include <fec.h>
 #include <gst/video/video-anc.h>
 #include <stdio.h>
@@ -31,7 +34,8 @@ static void fail(const char *what, long n)
     exit(1);
 }
 
-/* ---- a check of our own: Peterson's equations, which the search goes by too, but solved by elimination, and every place tried */
+/* ---- a check of our own: Peterson's equations, which the search goes by too, but solved by elimination, and every place tried; then the values at
+ * all places, marked and found, by elimination too, and the rule itself on what comes out */
 
 static uint8_t mul(uint8_t a, uint8_t b)
 {
@@ -60,7 +64,7 @@ static void make_tables(void)
 }
 
 /* solves m x = rhs over the field, n by n; 0 where m is singular */
-static int solve(int n, uint8_t m[3][4])
+static int solve(int n, uint8_t m[6][7])
 {
     for (int c = 0; c < n; c++) {
         int p = c;
@@ -100,47 +104,64 @@ static int sums(const uint8_t *block, uint8_t s[6])
     return any;
 }
 
-/* repairs the block if a codeword is within three bytes: 1, else 0 */
-static int check(uint8_t *block)
+/* is the block a codeword that differs from the delivered one in e places that are not marked, with 2e + f at most six for the f that are? With
+ * none marked this is document 01's rule: at most three bytes differ. */
+static int within(const uint8_t *block, const uint8_t *delivered, const int *mark, int f)
 {
     uint8_t s[6];
-    if (!sums(block, s))
-        return 1;
-    for (int e = 1; e <= 3; e++) {
-        uint8_t m[3][4];
-        for (int r = 0; r < e; r++) {
-            for (int c = 0; c < e; c++)
-                m[r][c] = s[r + c];
-            m[r][e] = s[r + e];
-        }
+    int e = 0;
+    for (int i = 0; i < BLOCK; i++)
+        e += block[i] != delivered[i];
+    for (int i = 0; i < f; i++)
+        e -= block[mark[i]] != delivered[mark[i]];
+    return 2 * e + f <= 6 && !sums(block, s);
+}
+
+/* repairs the block if a codeword is within the rule, for at most six marked places: 1, else 0 */
+static int check(uint8_t *block, const int *mark, int f)
+{
+    uint8_t s[6], t[6];
+    int place[6];
+    sums(block, s);
+    memcpy(t, s, 6);
+    /* a sum less the one before it times the mark's power holds nothing of what stands at the mark: each mark leaves one sum fewer */
+    for (int i = 0; i < f; i++) {
+        place[i] = BLOCK - 1 - mark[i];
+        for (int j = 0; j < 5 - i; j++)
+            t[j] = t[j + 1] ^ mul(t[j], power[place[i]]);
+    }
+    for (int e = 0; 2 * e + f <= 6; e++) {
+        uint8_t m[6][7];
+        for (int r = 0; r < e; r++)
+            for (int c = 0; c <= e; c++)
+                m[r][c] = t[r + c];
         if (!solve(e, m))
             continue;
-        int place[3], found = 0;
-        for (int k = 0; k < BLOCK && found <= e; k++) {
+        int found = f, all = f + e;
+        for (int k = 0; k < BLOCK && found <= all; k++) {
             uint8_t x = power[k], v = 1;
             for (int c = e - 1; c >= 0; c--)
                 v = mul(v, x) ^ m[c][e];
             if (!v) {
-                if (found < 3)
+                if (found < all)
                     place[found] = k;
                 found++;
             }
         }
-        if (found != e)
+        if (found != all)
             continue;
-        uint8_t y[3][4];
-        for (int r = 0; r < e; r++) {
-            for (int c = 0; c < e; c++)
-                y[r][c] = power[place[c] * r % 255];
-            y[r][e] = s[r];
+        for (int r = 0; r < all; r++) {
+            for (int c = 0; c < all; c++)
+                m[r][c] = power[place[c] * r % 255];
+            m[r][all] = s[r];
         }
-        if (!solve(e, y))
+        if (!solve(all, m))
             continue;
-        uint8_t fixed[BLOCK], left[6];
+        uint8_t fixed[BLOCK];
         memcpy(fixed, block, BLOCK);
-        for (int c = 0; c < e; c++)
-            fixed[BLOCK - 1 - place[c]] ^= y[c][e];
-        if (!sums(fixed, left)) {
+        for (int c = 0; c < all; c++)
+            fixed[BLOCK - 1 - place[c]] ^= m[c][all];
+        if (within(fixed, block, mark, f)) {
             memcpy(block, fixed, BLOCK);
             return 1;
         }
@@ -148,22 +169,86 @@ static int check(uint8_t *block)
     return 0;
 }
 
+/* what is wrong with a word, by counting its ones: 1 b8, 2 b9, 3 both */
+static int wrong_bits(unsigned word)
+{
+    unsigned parity = 0;
+    for (int i = 0; i < 8; i++)
+        parity ^= word >> i & 1;
+    return ((word >> 8 & 1) != parity) + 2 * ((word >> 9 & 1) == parity);
+}
+
 /* ---- deliveries */
 
 static void *rs;
 
-static int apart(const uint8_t *a, const uint8_t *b)
+/* repairs the block as libfec does if what libfec gives is within the rule: 1, else 0. A place counts from 0 in the 254 bytes for libfec too; it
+ * writes over the places that it is told. */
+static int libfec(uint8_t *block, const int *mark, int f)
 {
-    int n = 0;
-    for (int i = 0; i < BLOCK; i++)
-        n += a[i] != b[i];
-    return n;
+    uint8_t fixed[BLOCK];
+    int erased[6];
+    for (int i = 0; i < f; i++)
+        erased[i] = mark[i];
+    memcpy(fixed, block, BLOCK);
+    if (decode_rs_char(rs, fixed, erased, f) < 0 || !within(fixed, block, mark, f))
+        return 0;
+    memcpy(block, fixed, BLOCK);
+    return 1;
+}
+
+/* repairs the block by the check, which libfec must bear out: 1, or 0 where neither has a codeword within the rule */
+static int agreed(uint8_t *block, const int *mark, int f, long n)
+{
+    uint8_t theirs[BLOCK];
+    memcpy(theirs, block, BLOCK);
+    int good = check(block, mark, f);
+    if (libfec(theirs, mark, f) != good || (good && memcmp(theirs, block, BLOCK)))
+        fail("libfec", n);
+    return good;
+}
+
+enum { NEITHER, BY_MARKS, BY_BYTES };
+
+/* holds the repair of the words against the two rules: that of the marks, where there are at most six, and then document 01's of the bytes alone.
+ * Says which of them repaired. With no marks the two are one, which counts as the first. */
+static int repair(const uint16_t *words, long n)
+{
+    uint8_t marked[BLOCK], bytes[BLOCK];
+    uint16_t out[BLOCK];
+    int mark[BLOCK], f = 0, fixed = 0;
+    for (int i = 0; i < BLOCK; i++) {
+        marked[i] = bytes[i] = (uint8_t)words[i];
+        if (wrong_bits(words[i]))
+            mark[f++] = i;
+        out[i] = 0xABCD;
+    }
+    int first = f <= 6 && agreed(marked, mark, f, n);
+    int second = f > 0 && agreed(bytes, NULL, 0, n);
+    AyRepaired r = ay_repair(words, BLOCK, out, BLOCK);
+    if (first || second) {
+        for (int i = 0; i < BLOCK; i++) {
+            uint16_t w = ay_word_of(first ? marked[i] : bytes[i]);
+            fixed += w != words[i];
+            if (out[i] != w)
+                fail("a repaired word", n);
+        }
+        if (r.number != AY_DONE || r.place || r.fixed != fixed)
+            fail("what repair answers", n);
+    } else {
+        if (r.number != AY_BEYOND_REPAIR || r.place || r.fixed)
+            fail("a refusal", n);
+        for (int i = 0; i < BLOCK; i++)
+            if (out[i] != 0xABCD)
+                fail("a buffer that was refused", n);
+    }
+    return first ? BY_MARKS : second ? BY_BYTES : NEITHER;
 }
 
 static void delivery(long n)
 {
-    uint8_t block[BLOCK], ours[BLOCK], theirs[BLOCK], s[6];
-    uint16_t words[BLOCK], out[BLOCK];
+    uint8_t block[BLOCK], theirs[BLOCK], s[6];
+    uint16_t words[BLOCK];
     for (int i = 0; i < BLOCK; i++)
         block[i] = (uint8_t)next();
     int kind = (int)(n % 11);
@@ -177,36 +262,112 @@ static void delivery(long n)
     if (kind >= 9 || n % 3 == 0)
         for (int i = 0; i < 5; i++)
             words[next() % BLOCK] ^= (uint16_t)(next() % 4 << 8);
-    for (int i = 0; i < BLOCK; i++)
-        out[i] = 0xABCD;
-    AyRepaired r = ay_repair(words, BLOCK, out, BLOCK);
-    memcpy(ours, block, BLOCK);
-    int good = check(ours);
-    if (good) {
-        int fixed = 0;
-        for (int i = 0; i < BLOCK; i++) {
-            uint16_t w = ay_word_of(ours[i]);
-            fixed += w != words[i];
-            if (out[i] != w)
-                fail("a repaired word", n);
-        }
-        if (r.number != AY_DONE || r.fixed != fixed)
-            fail("what repair answers", n);
-    } else {
-        if (r.number != AY_BEYOND_REPAIR || r.place || r.fixed)
-            fail("a refusal", n);
-        for (int i = 0; i < BLOCK; i++)
-            if (out[i] != 0xABCD)
-                fail("a buffer that was refused", n);
-    }
+    repair(words, n);
     memcpy(theirs, block, BLOCK);
     int count = decode_rs_char(rs, theirs, NULL, 0);
-    int claim = count >= 0 && !sums(theirs, s) && apart(theirs, block) <= 3;
-    if (claim != good || (good && memcmp(theirs, ours, BLOCK)))
-        fail("libfec", n);
     AyVerdict v = ay_check_codeword(block, BLOCK);
     if (v.number != AY_DONE || v.place || v.codeword != !sums(block, s) || v.codeword != (count == 0))
         fail("the check of a codeword", n);
+}
+
+/* ---- marked deliveries */
+
+/* a codeword of random data, and its words */
+static void fresh(uint8_t *block, uint16_t *words)
+{
+    for (int i = 0; i < DATA; i++)
+        block[i] = (uint8_t)next();
+    encode_rs_char(rs, block, block + DATA);
+    for (int i = 0; i < BLOCK; i++)
+        words[i] = ay_word_of(block[i]);
+}
+
+/* that many places of the block, each another */
+static void pick(int count, int *place)
+{
+    for (int i = 0; i < BLOCK; i++)
+        place[i] = i;
+    for (int i = 0; i < count; i++) {
+        int j = i + (int)(next() % (uint32_t)(BLOCK - i)), p = place[j];
+        place[j] = place[i];
+        place[i] = p;
+    }
+}
+
+/* an unsound word over the byte: b8, b9 or both are wrong */
+static uint16_t unsound_word(uint8_t byte)
+{
+    return ay_word_of(byte) ^ (uint16_t)(1 + next() % 3) << 8;
+}
+
+/* f marks, w of them over any byte, which may be the right one, and the others over the right one; and e sound words of another byte */
+static void damage(uint16_t *words, int f, int w, int e)
+{
+    uint8_t block[BLOCK];
+    int place[BLOCK];
+    fresh(block, words);
+    pick(f + e, place);
+    for (int i = 0; i < f + e; i++) {
+        uint8_t was = block[place[i]];
+        if (i < f)
+            words[place[i]] = unsound_word(i < w ? (uint8_t)next() : was);
+        else
+            words[place[i]] = ay_word_of(was ^ (uint8_t)(1 + next() % 255));
+    }
+}
+
+/* words between two codewords that are seven bytes apart: so many of the seven places are marked, over the byte of the one, of the other, or any; of
+ * those left so many have the other's byte. Now and then an eighth mark stands where the two are equal. */
+static void between(uint16_t *words, int f, int others)
+{
+    uint8_t block[BLOCK], m[6][7], away[7];
+    int place[BLOCK];
+    fresh(block, words);
+    pick(8, place);
+    /* any value in the seventh place, and in the six others those that bring the six sums back to 0 */
+    away[6] = (uint8_t)(1 + next() % 255);
+    for (int r = 0; r < 6; r++) {
+        for (int c = 0; c < 7; c++)
+            m[r][c] = power[(BLOCK - 1 - place[c]) * r % 255];
+        m[r][6] = mul(m[r][6], away[6]);
+    }
+    if (!solve(6, m))
+        fail("there is no second codeword; it", f);
+    for (int i = 0; i < 6; i++)
+        away[i] = m[i][6];
+    for (int i = 0; i < 7; i++) {
+        uint8_t one = block[place[i]], other = one ^ away[i], any = (uint8_t)next();
+        uint32_t which = next() % 3;
+        if (i < f)
+            words[place[i]] = unsound_word(which == 0 ? one : which == 1 ? other : any);
+        else
+            words[place[i]] = ay_word_of(i < f + others ? other : one);
+    }
+    if (next() % 2)
+        words[place[7]] = unsound_word(block[place[7]]);
+}
+
+enum { SORTS = 3 };
+static const char *const sort_name[SORTS] = {
+    "with up to eight marks and four silent changes", "with marks over mostly right bytes", "between two codewords"
+};
+
+/* one delivery of a sort. The first goes through all 45 pairs of numbers; the second has up to twelve marks, every eighth time up to 251; the third
+ * takes its marks from none to seven in turn. */
+static int marked(int sort, long turn, long n)
+{
+    uint16_t words[BLOCK];
+    int f = (int)(turn % 9);
+    if (sort == 0)
+        damage(words, f, f, (int)(turn / 9 % 5));
+    else if (sort == 1) {
+        f = (int)(turn % 8 ? next() % 13 : next() % 252);
+        damage(words, f, (int)(turn / 8 % 4), (int)(turn / 32 % 4));
+    } else {
+        f = (int)(turn % 8);
+        between(words, f, (int)(next() % (uint32_t)(8 - f)));
+    }
+    return repair(words, n);
 }
 
 /* ---- packets */
@@ -264,15 +425,6 @@ static void packet(GstVideoVBIEncoder *encoder, guint8 *line, long n)
         fail("reading", n);
 }
 
-/* what is wrong with a word, by counting its ones: 1 b8, 2 b9, 3 both */
-static int wrong_bits(unsigned word)
-{
-    unsigned parity = 0;
-    for (int i = 0; i < 8; i++)
-        parity ^= word >> i & 1;
-    return ((word >> 8 & 1) != parity) + 2 * ((word >> 9 & 1) == parity);
-}
-
 /* data words of a packet with correction off are changed: reading names the first that is not sound, and what is wrong with it */
 static void unsound(long n)
 {
@@ -297,12 +449,21 @@ static void unsound(long n)
 int main(int argc, char **argv)
 {
     long deliveries = argc > 1 ? atol(argv[1]) : 1100000, packets = argc > 2 ? atol(argv[2]) : 20000;
+    long marks = argc > 3 ? atol(argv[3]) : 675000, by[SORTS][3] = {{0}};
     make_tables();
     rs = init_rs_char(8, 0x11d, 0, 1, 6, 1);
     if (!rs)
         fail("libfec gives no code, which", 0);
     for (long n = 0; n < deliveries; n++)
         delivery(n);
+    /* numbered on, so that a number that differs says which delivery it is */
+    for (long n = 0; n < marks; n++) {
+        int sort = (int)(n % SORTS);
+        by[sort][marked(sort, n / SORTS, deliveries + n)]++;
+    }
+    for (int i = 0; i < SORTS; i++)
+        printf("compare: %ld deliveries %s: %ld repaired by the marks, %ld by document 01's rule, %ld by neither\n",
+               by[i][BY_MARKS] + by[i][BY_BYTES] + by[i][NEITHER], sort_name[i], by[i][BY_MARKS], by[i][BY_BYTES], by[i][NEITHER]);
     for (unsigned word = 0; word < 65536; word++) {
         AyWord w = ay_check_word((uint16_t)word);
         if (word < 1024 ? w.number != AY_DONE || w.bits != wrong_bits(word) : w.number != AY_WIDE || w.bits)
@@ -320,7 +481,7 @@ int main(int argc, char **argv)
         packet(encoder, line, n);
         gst_video_vbi_encoder_free(encoder);
     }
-    printf("compare: %ld deliveries equal to libfec and to our check, %ld packets equal to GStreamer's, 65536 words and %ld packets with unsound words "
-           "as counted\n", deliveries, packets, packets);
+    printf("compare: %ld deliveries and %ld marked ones equal to libfec and to our check, %ld packets equal to GStreamer's, 65536 words and %ld "
+           "packets with unsound words as counted\n", deliveries, marks, packets, packets);
     return 0;
 }

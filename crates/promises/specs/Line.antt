@@ -6,8 +6,8 @@ use mathlib.Core.List.{List, [], _++_}
 use mathlib.Core.Option.{none}
 use Prim.Native.Nat.{ℕ, _+_, _≤_}
 use lib.ListN.{length, take, drop}
-use Rattle.rs.specs.Decode.{changes}
 use Rattle.anc.specs.Words.{narrow}
+use Rattle.repair.specs.Reach.{damage}
 use Rattle.reading.specs.Reading.{protectedOf}
 use Rattle.desk.specs.declared.Desk.{Desk}
 use Rattle.desk.specs.declared.Turn.{Turn}
@@ -19,12 +19,13 @@ use Rattle.follower.specs.Follower.{counted, refusalIn}
 use Rattle.promises.specs.Calls.{Opens, Sends, Begins, Follows}
 use Rattle.promises.specs.History.{Turns}
 
--- what a delivery may do to a packet: up to three of the 254 protected words are changed to any ten-bit values, and nothing else
+-- what a delivery may do to a packet: its 254 protected words are changed to any ten-bit values with 2e + f at most 6 against the sent packet, and
+-- nothing else: f of them are then not sound, and of the others e carry another byte
 pub record Delivers (sent arrived : List ℕ) : Type 0 where
   pub protected : List ℕ
   pub long : length protected ≡ 254
   pub ten-bits : narrow protected ≡ true
-  pub few : changes protected (protectedOf sent) ≤ 3
+  pub few : damage protected (protectedOf sent) ≤ 6
   pub rest : arrived ≡ take 7 sent ++ protected ++ drop 261 sent
 
 -- how the packet that was sent last has fared: there is none; it is on the line; it was dropped; it was delivered, and this was heard in

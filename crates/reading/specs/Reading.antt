@@ -14,10 +14,9 @@ use Rattle.refusal.specs.Chain.{require, next, passed}
 use Rattle.refusal.specs.Number.{refusalPlain}
 use Rattle.refusal.specs.declared.Reason.the-variants.{Length, Wide, Flag, Kind, Count, Header, Fill, BeyondRepair, Checksum, Room}
 use Rattle.refusal.specs.declared.Refusal.{Refusal}
-use Rattle.rs.specs.Decode.{repairable}
 use Rattle.record.specs.Record.{broken, recordOf}
 use Rattle.items.specs.Items.{items}
-use Rattle.repair.specs.Protected.{rewritten, fixedOf}
+use Rattle.repair.specs.Protected.{repairable, rewritten, fixedOf}
 use Rattle.anc.specs.Words.{hasFlag, lowBytes, narrow}
 
 -- word n of a packet, counted from 0
@@ -80,7 +79,7 @@ isFill w = eqb w 0x200
 -- the protected words, by the correction bit: 9; or 7 at the first data word that is not sound, and then 8
 unfoldable pub protectedRefusal : Bool → List ℕ → Option Refusal
 protectedRefusal correction guarded =
-    cond correction (require (repairable (lowBytes guarded)) (refusalPlain BeyondRepair) passed)
+    cond correction (require (repairable guarded) (refusalPlain BeyondRepair) passed)
     (next (unsoundFrom 1 (dataWords guarded)) (require (all isFill (drop 248 guarded)) (refusalPlain Fill) passed))
 
 -- 7 to 14: the protected words, the checksum and the record

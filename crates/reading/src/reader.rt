@@ -64,7 +64,7 @@ fn read_bytes(words: &[u16], correction: bool, out: &mut [u8]) -> Checked
 {
     anc::low_bytes(words, out);
     if correction {
-        return search::repair(out);
+        return search::repair_marked(out, words);
     }
     let parity = soundness::check_words(&words[0..248]);
     then(parity, all_fill(&words[248..254]), Reason::Fill, 0)

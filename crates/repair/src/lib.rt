@@ -11,8 +11,9 @@ pub enum Repaired {
     Refused(refusal::Refusal),
 }
 
-// Rewrites the 254 protected words as the sound words of the codeword within three bytes of what they carry. A refusal leaves `out`
-// as it was.
+// Rewrites the 254 protected words as the sound words of a codeword. A word that is not sound marks its byte: with f marks, and e for the number of
+// the other bytes that differ from it, the codeword has 2e + f at most 6; where there is none, it is the one within three bytes of what the words
+// carry. A refusal leaves `out` as it was.
 pub fn repair(words: &[u16], out: &mut [u16]) -> Repaired
     ensures { λ r. ⌜ (r ≡ repairedOf (now (words .entry)) (length (now (out .entry)))) × (now (out .exit) ≡ repairLeaves (now (words .entry)) (now (out .entry))) ⌝ }
 {
@@ -24,7 +25,7 @@ pub fn repair(words: &[u16], out: &mut [u16]) -> Repaired
     }
     let mut bytes = [0u8; 254];
     anc::low_bytes(words, &mut bytes);
-    let near = search::repair(&mut bytes);
+    let near = search::repair_marked(&mut bytes, words);
     match near {
         Checked::Refused(why) => return Repaired::Refused(why),
         Checked::Passed => {}

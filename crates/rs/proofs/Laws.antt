@@ -1,7 +1,9 @@
 pub mod Polynomial
 pub mod Division
 pub mod Distance
+pub mod Errors
 pub mod Codeword
 pub mod Decode
+pub mod Marked
 pub mod Packed
 pub mod Check

@@ -39,12 +39,17 @@ unfoldable pub fronted : ℕ → List (List ℕ) → List (List ℕ)
 fronted zero ls = []
 fronted (suc n) ls = map (λ l. n ∷ l) ls ++ fronted n ls
 
--- every list that differs from l in at most k places: nothing is left to change; the end; the first byte kept; the first byte any
--- byte, and one place fewer to change
-unfoldable pub near : ℕ → List ℕ → List (List ℕ)
-near zero l = l ∷ []
-near (suc k) [] = [] ∷ []
-near (suc k) (b ∷ l) = map (λ m. b ∷ m) (near (suc k) l) ++ fronted 256 (near k l)
+-- every list that differs from l in at most k places without a mark. With no mark left: nothing is left to change; the end; the first byte
+-- kept, or any byte there and one place fewer to change. With marks: the end; a marked byte, which may be any byte and costs nothing; the first byte
+-- kept since nothing is left to change; the first byte kept, or any byte there and one place fewer to change
+unfoldable pub near : List Bool → ℕ → List ℕ → List (List ℕ)
+near [] zero l = l ∷ []
+near [] (suc k) [] = [] ∷ []
+near [] (suc k) (b ∷ l) = map (λ m. b ∷ m) (near [] (suc k) l) ++ fronted 256 (near [] k l)
+near (mark ∷ marks) k [] = [] ∷ []
+near (true ∷ marks) k (b ∷ l) = fronted 256 (near marks k l)
+near (false ∷ marks) zero (b ∷ l) = map (λ m. b ∷ m) (near marks zero l)
+near (false ∷ marks) (suc k) (b ∷ l) = map (λ m. b ∷ m) (near marks (suc k) l) ++ fronted 256 (near marks k l)
 
 -- the first list that is a codeword
 unfoldable pub firstCodeword : List (List ℕ) → Option (List ℕ)
@@ -58,7 +63,7 @@ given (some w) = true
 
 -- the codeword within three places of what was delivered
 unfoldable pub decode : List ℕ → Option (List ℕ)
-decode delivered = firstCodeword (near 3 delivered)
+decode delivered = firstCodeword (near [] 3 delivered)
 
 -- is there one?
 unfoldable pub repairable : List ℕ → Bool

@@ -7,3 +7,11 @@ pub mod Three
 pub mod Held
 pub mod Repair
 pub mod Answer
+pub mod Values
+pub mod Marked
+pub mod Split
+pub mod Patched
+pub mod First
+pub mod Flags
+pub mod Located
+pub mod Solved

@@ -1,1 +1,4 @@
+pub mod Marked
 pub mod Search
+pub mod Values
+pub mod SearchMarked

@@ -44,14 +44,14 @@ fn no_errors() -> Errors
     }
 }
 
-fn times(wheel: &[u8; 1021], logs: &[u8; 256], a: u8, b: u8) -> u8
+pub(crate) fn times(wheel: &[u8; 1021], logs: &[u8; 256], a: u8, b: u8) -> u8
     requires { ⌜ Tables (now wheel) (now logs) ⌝ }
     ensures { λ r. ⌜ r ≡ a ⊗ b ⌝ }
 {
     gf256::product_in(wheel, logs, a, b)
 }
 
-fn divided(wheel: &[u8; 1021], logs: &[u8; 256], a: u8, b: u8) -> u8
+pub(crate) fn divided(wheel: &[u8; 1021], logs: &[u8; 256], a: u8, b: u8) -> u8
     requires { ⌜ Tables (now wheel) (now logs) ⌝ }
     ensures { λ r. ⌜ r ≡ over a b ⌝ }
 {
@@ -74,7 +74,7 @@ fn plus_times(wheel: &[u8; 1021], logs: &[u8; 256], a: u8, x: u8, b: u8) -> u8
 }
 
 // a b + c d
-fn cross(wheel: &[u8; 1021], logs: &[u8; 256], a: u8, b: u8, c: u8, d: u8) -> u8
+pub(crate) fn cross(wheel: &[u8; 1021], logs: &[u8; 256], a: u8, b: u8, c: u8, d: u8) -> u8
     requires { ⌜ Tables (now wheel) (now logs) ⌝ }
     ensures { λ r. ⌜ r ≡ a ⊗ b ⊕ c ⊗ d ⌝ }
 {
@@ -132,7 +132,7 @@ pub(crate) fn sums(wheel: &[u8; 1021], logs: &[u8; 256], bytes: [u8; 6]) -> [u8;
 }
 
 // The five sums that are left of six once the place x is killed.
-fn killed(wheel: &[u8; 1021], logs: &[u8; 256], s: [u8; 6], x: u8) -> [u8; 6]
+pub(crate) fn killed(wheel: &[u8; 1021], logs: &[u8; 256], s: [u8; 6], x: u8) -> [u8; 6]
     requires { ⌜ Tables (now wheel) (now logs) ⌝ }
     ensures { λ r. ⌜ r ≡ killedOf x s ⌝ }
 {
@@ -181,7 +181,7 @@ fn top_root(wheel: &[u8; 1021], logs: &[u8; 256], l: Locator) -> usize
 }
 
 // One error: its place is the ratio of the first two sums, its value the first.
-fn one_error(wheel: &[u8; 1021], logs: &[u8; 256], s: [u8; 6]) -> Errors
+pub(crate) fn one_error(wheel: &[u8; 1021], logs: &[u8; 256], s: [u8; 6]) -> Errors
     requires { ⌜ Tables (now wheel) (now logs) ⌝ }
     ensures { λ r. ⌜ FindsOne s r ⌝ }
 {
@@ -241,7 +241,7 @@ fn locator_three(wheel: &[u8; 1021], logs: &[u8; 256], s: [u8; 6]) -> Locator
 }
 
 // Two errors by n sums: the first place is the greatest root of the locator, the other is the rest of their sum.
-fn two_errors(wheel: &[u8; 1021], logs: &[u8; 256], s: [u8; 6], n: usize) -> Errors
+pub(crate) fn two_errors(wheel: &[u8; 1021], logs: &[u8; 256], s: [u8; 6], n: usize) -> Errors
     requires { ⌜ Tables (now wheel) (now logs) × (4 ≤ n) × (n ≤ 6) ⌝ }
     ensures { λ r. ⌜ FindsTwo n s r ⌝ }
 {

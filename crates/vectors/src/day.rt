@@ -1,4 +1,5 @@
-// A day of a desk and a follower over a damaged line: edits, undos, sends, drops, repeats and three bad words in each delivery.
+// A day of a desk and a follower over a damaged line: edits, undos, sends, drops, repeats, and in each delivery as many bad words as the line may
+// have.
 use desk::Desk;
 use follower::Follower;
 use std::num::wrapping_add_u32;
@@ -31,23 +32,64 @@ pub(crate) fn change(words: &mut [u16], at: usize, word: u16) {
     }
 }
 
+// The protected word that chance falls on.
+fn place(chance: u64) -> usize {
+    (7 + chance % 254) as usize
+}
+
+// A word that is not sound: its b8 and b9 are both 0, or both 1.
+fn confessing(chance: u64) -> u16 {
+    let byte = (chance / 2 % 256) as u16;
+    if chance % 2 == 0 {
+        return byte;
+    }
+    byte + 768
+}
+
 // Changes three protected words to any ten-bit values.
+fn any_three(words: &mut [u16], chance: u64) {
+    change(words, place(chance), (chance / 7 % 1024) as u16);
+    change(words, place(chance / 254), (chance / 11 % 1024) as u16);
+    change(words, place(chance / 64516), (chance / 13 % 1024) as u16);
+}
+
+// Changes up to six protected words to words that are not sound.
+fn six_confess(words: &mut [u16], chance: u64) {
+    change(words, place(chance), confessing(chance / 7));
+    change(words, place(chance / 3), confessing(chance / 11));
+    change(words, place(chance / 254), confessing(chance / 13));
+    change(words, place(chance / 762), confessing(chance / 17));
+    change(words, place(chance / 64516), confessing(chance / 19));
+    change(words, place(chance / 193548), confessing(chance / 23));
+}
+
+// Changes two protected words to words that are not sound, and two to sound words of any byte.
+fn two_confess(words: &mut [u16], chance: u64) {
+    change(words, place(chance), confessing(chance / 7));
+    change(
+        words,
+        place(chance / 254),
+        anc::word_of((chance / 11 % 256) as u8),
+    );
+    change(words, place(chance / 762), confessing(chance / 13));
+    change(
+        words,
+        place(chance / 64516),
+        anc::word_of((chance / 17 % 256) as u8),
+    );
+}
+
+// Changes protected words as the line may: with 2e + f at most 6.
 fn damage(words: &mut [u16], chance: u64) {
-    change(
-        words,
-        (7 + chance % 254) as usize,
-        (chance / 7 % 1024) as u16,
-    );
-    change(
-        words,
-        (7 + chance / 254 % 254) as usize,
-        (chance / 11 % 1024) as u16,
-    );
-    change(
-        words,
-        (7 + chance / 64516 % 254) as usize,
-        (chance / 13 % 1024) as u16,
-    );
+    if chance % 3 == 0 {
+        any_three(words, chance / 3);
+    } else {
+        if chance % 3 == 1 {
+            six_confess(words, chance / 3);
+        } else {
+            two_confess(words, chance / 3);
+        }
+    }
 }
 
 // An edit of the sound mode or of the triggers, or an undo.

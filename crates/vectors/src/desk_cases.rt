@@ -1,16 +1,36 @@
-// Cases that are run: three changed words, and the end of the history.
+// Cases that are run: three changed words, six that confess, and the end of the history.
 use crate::day;
 use desk::Desk;
+
+// Changes three words; none of the new ones is sound.
+fn change_three(words: &mut [u16], a: usize, b: usize, c: usize) {
+    day::change(words, a, 0x000);
+    day::change(words, b, 0x001);
+    day::change(words, c, 0x3FF);
+}
 
 // How many words are fixed in a fresh desk's packet with three of its words changed; 255 where it is refused.
 pub(crate) fn fixed_with(a: usize, b: usize, c: usize) -> u64 {
     let mut words = [0u16; 262];
     let desk = Desk::open(true);
     desk.send(&mut words);
-    day::change(&mut words, a, 0x000);
-    day::change(&mut words, b, 0x001);
-    day::change(&mut words, c, 0x3FF);
-    let reading = reading::read_packet(&words);
+    change_three(&mut words, a, b, c);
+    fixed(&words)
+}
+
+// The same with six of them, the first three protected ones and the last three.
+pub(crate) fn fixed_at_both_ends() -> u64 {
+    let mut words = [0u16; 262];
+    let desk = Desk::open(true);
+    desk.send(&mut words);
+    change_three(&mut words, 7, 8, 9);
+    change_three(&mut words, 258, 259, 260);
+    fixed(&words)
+}
+
+// How many words are fixed in a packet; 255 where it is refused.
+fn fixed(words: &[u16]) -> u64 {
+    let reading = reading::read_packet(words);
     match reading {
         reading::Reading::Accepted(p) => p.fixed as u64,
         reading::Reading::Refused(_) => 255,

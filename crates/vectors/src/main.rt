@@ -1,6 +1,6 @@
 // Runs what is compared and not proved: parities, repairs and checks that another program worked out, the same repairs by the plain repairer,
-// three changed words at both ends of the codeword, the end of the history, and a day of a desk and a follower over a damaged line. Prints what
-// was compared.
+// three changed words at both ends of the codeword and six that confess, the end of the history, and a day of a desk and a follower over a
+// damaged line. Prints what was compared.
 mod day;
 mod desk_cases;
 mod outside;
@@ -33,6 +33,10 @@ fn main() {
     line(
         b"fixed, last three protected words changed: ",
         desk_cases::fixed_with(258, 259, 260),
+    );
+    line(
+        b"fixed, six of these that confess: ",
+        desk_cases::fixed_at_both_ends(),
     );
     let undone = desk_cases::undos_after(33);
     line(b"undos after 33 edits: ", undone.count);

@@ -8,13 +8,15 @@ use Prim.Native.Nat.{ℕ, _≤_}
 use lib.ListN.{length, take, drop}
 use lib.Seq.{take-at, drop-at}
 use Rattle.basics.specs.Below.{Bytes}
-use Rattle.rs.specs.Decode.{changes}
+use Rattle.basics.specs.Each.{all}
 use Rattle.record.proofs.Laws.Stored.{CleanRecord}
+use Rattle.anc.specs.Word.{isSound}
 use Rattle.anc.specs.Words.{narrow}
 use Rattle.writing.specs.Layout.{headerWord, protectedWords, packetWords, carrying}
+use Rattle.repair.specs.Reach.{damage}
 use Rattle.reading.specs.Reading.{protectedOf, indexOf, readRefusal, readRecord}
 use Rattle.writing.proofs.Laws.Layout.{packet-carries, length-protected, protected-narrow}
-use Rattle.reading.proofs.Laws.RoundTrip.{damaged-reads}
+use Rattle.reading.proofs.Laws.RoundTrip.{damaged-reads, protected-sound}
 use Rattle.promises.specs.Line.{Delivers}
 
 -- it is accepted, with its index and its record
@@ -43,17 +45,20 @@ module _ (ci : ℕ) (r : List ℕ) (hc : ci ≤ 15) (c : CleanRecord r) (b : Byt
       ap (λ (l : List ℕ). take 7 l ++ q ++ drop 261 l) (packet-carries true ci r)
       ∙ ap (λ (l : List ℕ). 0x000 ∷ 0x3FF ∷ 0x3FF ∷ 0x25F ∷ 0x1FE ∷ 0x2FF ∷ headerWord true ci ∷ (q ++ l)) (drop-at guarded _ 254 guarded-length)
 
-  -- the protected words are 254, of ten bits each
+  -- the protected words are 254, of ten bits each, and sound
   pub sent-long : length (protectedOf sent) ≡ 254
   sent-long = ap length sent-protected ∙ guarded-length
 
   pub sent-narrow : narrow (protectedOf sent) ≡ true
   sent-narrow = ap narrow sent-protected ∙ protected-narrow true r b
 
+  pub sent-sound : all isSound (protectedOf sent) ≡ true
+  sent-sound = ap (all isSound) sent-protected ∙ protected-sound r (c .long) b
+
   pub arrives : (arrived : List ℕ) → Delivers sent arrived → Arrives arrived ci r
   arrives arrived D =
       let q : List ℕ = D .protected in
-      let few : changes q guarded ≤ 3 = subst (λ (l : List ℕ). changes q l ≤ 3) sent-protected (D .few) in
+      let few : damage q guarded ≤ 6 = subst (λ (l : List ℕ). damage q l ≤ 6) sent-protected (D .few) in
       let R = damaged-reads ci r q hc (c .long) b (D .long) (D .ten-bits) few (c .rules) in
       let e : arrived ≡ carrying true ci r q = D .rest ∙ sent-carries q in
       record {

@@ -13,8 +13,10 @@ use Rattle.refusal.specs.Number.{refusalPlain}
 use Rattle.refusal.specs.declared.Reason.the-variants.{Room}
 use Rattle.refusal.specs.declared.Checked.the-variants.{Refused}
 use Rattle.basics.specs.Below.{Bytes}
+use Rattle.basics.specs.Each.{all}
 use Rattle.record.proofs.Laws.Stored.{CleanRecord}
 use Rattle.writing.specs.Layout.{packetWords}
+use Rattle.anc.specs.Word.{isSound}
 use Rattle.anc.specs.Words.{narrow}
 use Rattle.reading.specs.Reading.{indexOf, protectedOf}
 use Rattle.desk.specs.declared.Desk.{Desk}
@@ -34,7 +36,7 @@ use Rattle.follower.proofs.Laws.Follow.{accepted-holds, Arrived, first-kind, ne
 use Rattle.promises.specs.Calls.{Opens, Sends, Begins, Follows}
 use Rattle.promises.specs.History.{Turns, edits, undoes, History, opens, turns, sends}
 use Rattle.promises.specs.Line.{Delivers, Fate, unsent, waiting, dropped, delivered, Scene, opening, turned, sent, lost, heard, Line, opens, turns, sends, no-room, drops, delivers, repeats, Agrees}
-use Rattle.promises.proofs.Laws.Arrival.{Arrives, sent-long, sent-narrow, arrives}
+use Rattle.promises.proofs.Laws.Arrival.{Arrives, sent-long, sent-narrow, sent-sound, arrives}
 use Rattle.promises.proofs.Laws.Calls.{sends-is, begins-is, follows-is}
 use Rattle.promises.proofs.Laws.History.{stands, sent-is, history-bytes}
 
@@ -327,16 +329,21 @@ no-room-refused s l old t left S n =
     let stood = stands true (s .desk) (s .history) (known s l .desk) in
     ap (λ (x : Turn). x .checked) (sends-is (s .desk) old t left S) ∙ rw (send-by-room true (s .desk) (s .history) stood (length old), ne-eqb (length old) 262 n)
 
--- the packet that waits on a line, or was delivered, has 254 protected words of ten bits each
+-- the packet that waits on a line, or was delivered, has 254 protected words of ten bits each, and sound
 pub record Ordinary (words : List ℕ) : Type 0 where
   pub long : length (protectedOf words) ≡ 254
   pub ten-bits : narrow (protectedOf words) ≡ true
+  pub sound : all isSound (protectedOf words) ≡ true
 
 ordinary : (s : Scene) → OnLine s → Ordinary (s .words)
 ordinary s L =
     let hc : L .number % 16 ≤ 15 = omega arith in
     rw (L .words)
-    (record { long = sent-long (L .number % 16) (s .bytes) hc (L .clean) (L .small); ten-bits = sent-narrow (L .number % 16) (s .bytes) hc (L .clean) (L .small) })
+    (record {
+      long = sent-long (L .number % 16) (s .bytes) hc (L .clean) (L .small);
+      ten-bits = sent-narrow (L .number % 16) (s .bytes) hc (L .clean) (L .small);
+      sound = sent-sound (L .number % 16) (s .bytes) hc (L .clean) (L .small);
+    })
 
 pub waiting-ordinary : (s : Scene) → Line s → s .fate ≡ waiting → Ordinary (s .words)
 waiting-ordinary s l w = ordinary s (subst (Fared s) w (known s l .fared))

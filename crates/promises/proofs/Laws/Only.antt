@@ -76,6 +76,8 @@ use Rattle.rs.proofs.check_codeword.Kinds as check-codeword-types
 use Rattle.rs.proofs.check_codeword.Reads as check-codeword-contract
 use Rattle.search.proofs.repair.Kinds as search-repair-types
 use Rattle.search.proofs.repair.Reads as search-repair-contract
+use Rattle.search.proofs.repair_marked.Kinds as repair-marked-types
+use Rattle.search.proofs.repair_marked.Reads as repair-marked-contract
 use Rattle.plain.proofs.repair.Kinds as plain-repair-types
 use Rattle.plain.proofs.repair.Reads as plain-repair-contract
 use Rattle.record.proofs.record_refusal.Kinds as record-refusal-types
@@ -299,6 +301,9 @@ check-codeword κs i a b s t p q = p ∙ sym q
 
 pub search-repair : OneOutcome 1 search-repair-types.ps search-repair-types.r (λ κs s. now (s .0)) search-repair-contract.Learnt
 search-repair κs i a b s t p q = (p .0 ∙ sym (q .0), p .1 ∙ sym (q .1))
+
+pub repair-marked : OneOutcome 2 repair-marked-types.ps repair-marked-types.r (λ κs s. now (s .0)) repair-marked-contract.Learnt
+repair-marked κs i a b s t p q = (p .0 ∙ sym (q .0), p .1 ∙ sym (q .1))
 
 -- ---- plain
 

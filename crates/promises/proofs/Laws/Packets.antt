@@ -2,16 +2,22 @@
 -- that what is read is written again, and that repair gives back what was sent.
 -- Assumes nothing.
 use mathlib.Core.Path.{_≡_, refl, sym, ap, _∙_, subst}
-use mathlib.Core.Bool.{Bool, true, false}
+use mathlib.Core.Bool.{Bool, true, false, not}
 use mathlib.Core.List.{List, _++_}
+use mathlib.Core.Logic.{_⊎_}
 use mathlib.Core.Option.{Option, none, some}
 use Prim.Native.Nat.{ℕ}
-use lib.ListN.{length}
+use lib.ListN.{length, length-append}
+use native.Mathlib.Omega.{arith}
 use Rattle.basics.specs.Below.{Bytes}
+use Rattle.basics.specs.Each.{all}
 use Rattle.anc.specs.Words.{lowBytes, narrow, soundWords}
-use Rattle.anc.proofs.Laws.Words.{low-words}
+use Rattle.anc.specs.Word.{isSound}
+use Rattle.anc.proofs.Laws.Words.{lowBytes-length, soundWords-length, low-words, words-narrow, narrow-append}
 use Rattle.rs.specs.Codeword.{parityOf, Codeword}
 use Rattle.rs.specs.Decode.{changes, Within}
+use Rattle.rs.specs.Marked.{WithinMarked}
+use Rattle.search.specs.Marked.{confessed}
 use Rattle.refusal.specs.Number.{refusalPlain}
 use Rattle.refusal.specs.declared.Reason.the-variants.{BeyondRepair}
 use Rattle.refusal.specs.declared.Refusal.{Refusal}
@@ -22,8 +28,9 @@ use Rattle.repair.specs.declared.Repaired.{Repaired}
 use Rattle.repair.specs.declared.Repaired.the-variants.{Fixed}
 use Rattle.repair.specs.Protected.{repairRefusal}
 use Rattle.repair.specs.Repair.{refusalIn as refusalInRepair}
-use Rattle.repair.proofs.Laws.Repair.{refusal-said as repair-said, repair-answers}
+use Rattle.repair.proofs.Laws.Repair.{refusal-said as repair-said, repair-answers, passed-allowed}
 use Rattle.repair.proofs.Laws.Reach.{repair-beyond}
+use Rattle.repair.proofs.Laws.Damage.{behind-cost}
 use Rattle.writing.specs.declared.Written.{Written}
 use Rattle.writing.specs.declared.Written.the-variants.{Done}
 use Rattle.writing.specs.Layout.{packetWords}
@@ -179,7 +186,25 @@ module _ (words room : List ℕ) (p : Packet) (left : List ℕ) (R : ReadsInto w
 -- ---- repair alone gives back what was sent, and counts the words that differ from it
 
 pub repair-gives-back : (words old : List ℕ) (a : Repaired) (left c : List ℕ) → Repairs words old a left → narrow words ≡ true → length old ≡ 254
-    → Within (lowBytes words) c → (a ≡ Fixed (changes words (soundWords c))) × (left ≡ soundWords c)
+    → WithinMarked (confessed words) (lowBytes words) c → (a ≡ Fixed (changes words (soundWords c))) × (left ≡ soundWords c)
 repair-gives-back words old a left c R w m W =
     let A = repair-answers c words old W w m in
     (repairs-is words old a left R ∙ A .0, repairs-leaves words old a left R ∙ A .1)
+
+-- what it gives are the words of a codeword that one of the two rules allows
+pub repair-allowed : (words old : List ℕ) (n : ℕ) (left : List ℕ) → Repairs words old (Fixed n) left
+    → (c : List ℕ) × (WithinMarked (confessed words) (lowBytes words) c ⊎ Within (lowBytes words) c) × (left ≡ soundWords c)
+repair-allowed words old n left R =
+    let (c, W, e) = passed-allowed words old (repair-tells words old (Fixed n) left R) in (c, W, repairs-leaves words old (Fixed n) left R ∙ e)
+
+-- ---- what the rule of the marks costs
+
+-- where the six parity words confess, any 248 bytes in sound words are read as they stand: a change among them is left to the checksum
+pub six-unnoticed : (bytes us old : List ℕ) (a : Repaired) (left : List ℕ) → Repairs (soundWords bytes ++ us) old a left → length bytes ≡ 248 → Bytes bytes → length us ≡ 6
+    → narrow us ≡ true → all (λ u. not (isSound u)) us ≡ true → length old ≡ 254 → left ≡ soundWords (bytes ++ parityOf bytes)
+six-unnoticed bytes us old a left R n b m w u o =
+    let C = written-codeword bytes n b in
+    let words : List ℕ = soundWords bytes ++ us in
+    let long : length (lowBytes words) ≡ 254 = lowBytes-length words ∙ length-append (soundWords bytes) us ∙ omega (arith, soundWords-length bytes) in
+    repair-gives-back words old a left (bytes ++ parityOf bytes) R (narrow-append (soundWords bytes) us (words-narrow bytes b) w) o
+    (record { word = C; long = C .long ∙ sym long; near = omega (arith, behind-cost bytes us (parityOf bytes) b u) }) .1

@@ -26,6 +26,7 @@ use Rattle.soundness.specs.Check.{soundnessOf, refusalIn as refusalInWord, word
 use Rattle.soundness.proofs.Laws.Check.{refused-wide}
 use Rattle.rs.specs.Codeword.{blockRefusal}
 use Rattle.rs.specs.Decode.{decodeRefusal}
+use Rattle.search.specs.Marked.{markedRefusal}
 use Rattle.items.specs.Items.{Row, items, part}
 use Rattle.items.specs.Item.{rowOf, refusedIn, itemRefusal, placeIn, placeOf}
 use Rattle.record.specs.Record.{broken, recordRefusal}
@@ -199,6 +200,10 @@ block-right block = search checks
 pub decode-right : (block : List ℕ) → RightIn 0 (decodeRefusal block)
 unfolding decodeRefusal numberOf
 decode-right block = search (checks, block-right)
+
+pub marked-right : (words block : List ℕ) → RightIn 0 (markedRefusal words block)
+unfolding markedRefusal numberOf
+marked-right words block = search (checks, block-right)
 
 pub place-right : (n : ℕ) → RightIn 0 (refusalIn (placeOf n .checked))
 unfolding placeOf placeIn numberOf

@@ -39,7 +39,7 @@ use Rattle.follower.specs.declared.Heard.the-variants.{Accepted as Arrived, Ref
 use Rattle.answers.specs.Answers.{answerBy, packetFrom, heardFrom, followedFrom}
 use Rattle.answers.proofs.Laws.Done.{Says, word-says, verdict-says, packet-says, repaired-says, field-says, turn-says, followed-says}
 use Rattle.promises.specs.Places.{RightPlace, RightIn, BitsBeside, PlacesRight, AnswersRight, BitsRight}
-use Rattle.promises.proofs.Laws.Placed.{check-right, words-right, fill-right, block-right, decode-right, place-right, item-right, record-right, written-right, put-right, store-right, repair-right, count-right, write-right, read-right, into-right, step-right, back-right, undo-right, send-right, pack-right, unpack-right}
+use Rattle.promises.proofs.Laws.Placed.{check-right, words-right, fill-right, block-right, decode-right, marked-right, place-right, item-right, record-right, written-right, put-right, store-right, repair-right, count-right, write-right, read-right, into-right, step-right, back-right, undo-right, send-right, pack-right, unpack-right}
 use Rattle.soundness.proofs.check_word.Kinds as check-word-types
 use Rattle.soundness.proofs.check_word.Reads as check-word-contract
 use Rattle.soundness.proofs.check_words.Kinds as check-words-types
@@ -54,6 +54,8 @@ use Rattle.rs.proofs.check_codeword.Kinds as check-codeword-types
 use Rattle.rs.proofs.check_codeword.Reads as check-codeword-contract
 use Rattle.search.proofs.repair.Kinds as search-repair-types
 use Rattle.search.proofs.repair.Reads as search-repair-contract
+use Rattle.search.proofs.repair_marked.Kinds as repair-marked-types
+use Rattle.search.proofs.repair_marked.Reads as repair-marked-contract
 use Rattle.plain.proofs.repair.Kinds as plain-repair-types
 use Rattle.plain.proofs.repair.Reads as plain-repair-contract
 use Rattle.items.proofs.item_place.Kinds as item-place-types
@@ -151,6 +153,9 @@ check-codeword κs i a s p = rw (p, check-said) (block-right _)
 
 pub search-repair : PlacesRight 1 search-repair-types.ps search-repair-types.r 0 (λ κs. refusalIn) search-repair-contract.Learnt
 search-repair κs i a s p = rw (p .0, refusal-in) (decode-right _)
+
+pub repair-marked : PlacesRight 2 repair-marked-types.ps repair-marked-types.r 0 (λ κs. refusalIn) repair-marked-contract.Learnt
+repair-marked κs i a s p = rw (p .0, refusal-in) (marked-right _ _)
 
 pub plain-repair : PlacesRight 1 plain-repair-types.ps plain-repair-types.r 0 (λ κs. refusalIn) plain-repair-contract.Learnt
 plain-repair κs i a s p = rw (p .0, refusal-in) (decode-right _)

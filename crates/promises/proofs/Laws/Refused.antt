@@ -14,6 +14,8 @@ use Rattle.refusal.proofs.Laws.Number.{number-on-list}
 use Rattle.anc.specs.Words.{lowBytes, soundWords, fillRefusal, fillLeaves}
 use Rattle.rs.specs.Decode.{decodeRefusal}
 use Rattle.rs.proofs.Laws.Decode.{refused-keeps}
+use Rattle.search.specs.Marked.{markedRefusal}
+use Rattle.search.proofs.Laws.Marked.{refused-keeps-marked}
 use Rattle.refusal.specs.declared.Checked.{Checked}
 use Rattle.refusal.specs.Checked.{checkedOf, refusalIn}
 use Rattle.items.specs.Item.{itemRefusal}
@@ -50,6 +52,8 @@ use Rattle.anc.proofs.sound_words.Kinds as sound-words-types
 use Rattle.anc.proofs.sound_words.Reads as sound-words-contract
 use Rattle.search.proofs.repair.Kinds as search-repair-types
 use Rattle.search.proofs.repair.Reads as search-repair-contract
+use Rattle.search.proofs.repair_marked.Kinds as repair-marked-types
+use Rattle.search.proofs.repair_marked.Reads as repair-marked-contract
 use Rattle.plain.proofs.repair.Kinds as plain-repair-types
 use Rattle.plain.proofs.repair.Reads as plain-repair-contract
 use Rattle.record.proofs.write_record.Kinds as write-record-types
@@ -146,6 +150,10 @@ put-back κs i a s p (why, e) = p .1 ∙ kept _ why _ _ (checked-said (backRefus
 
 pub search-repair : RefusedKeeps 1 search-repair-types.ps search-repair-types.r (λ κs. Tells refusalIn) (λ κs i. now (i .0)) (λ κs s. now (s .0)) search-repair-contract.Learnt
 search-repair κs i a s p (why, e) = p .1 ∙ refused-keeps (now (i .0)) why (checked-said (decodeRefusal (now (i .0))) a why (p .0) e)
+
+pub repair-marked : RefusedKeeps 2 repair-marked-types.ps repair-marked-types.r (λ κs. Tells refusalIn) (λ κs i. now (i .0)) (λ κs s. now (s .0)) repair-marked-contract.Learnt
+repair-marked κs i a s p (why, e) =
+    p .1 ∙ refused-keeps-marked (now (i .1 .0)) (now (i .0)) why (checked-said (markedRefusal (now (i .1 .0)) (now (i .0))) a why (p .0) e)
 
 pub plain-repair : RefusedKeeps 1 plain-repair-types.ps plain-repair-types.r (λ κs. Tells refusalIn) (λ κs i. now (i .0)) (λ κs s. now (s .0)) plain-repair-contract.Learnt
 plain-repair κs i a s p (why, e) = p .1 ∙ refused-keeps (now (i .0)) why (checked-said (decodeRefusal (now (i .0))) a why (p .0) e)

@@ -1,29 +1,32 @@
--- The lines of demand 3 are not few: every call can be made on them, any packet on a line can be damaged in three words, and one line with
--- damage, a repeat, a drop and a refused send is worked out.
+-- The lines of demand 3 are not few: every call can be made on them, any packet on a line can be damaged by words that are not sound and by words
+-- that are, and one line with damage, a repeat, a drop and a refused send is worked out.
 -- Assumes nothing.
-use mathlib.Core.Path.{_≡_, refl, sym, ap, ap₂, _∙_}
-use mathlib.Core.Bool.{Bool, true, false, _&&_}
+use mathlib.Core.Path.{_≡_, refl, sym, ap, _∙_}
+use mathlib.Core.Bool.{Bool, true, false}
 use mathlib.Core.List.{List, [], _∷_, _++_}
 use Prim.Native.Nat.{ℕ, _+_, _≤_}
 use native.Mathlib.Omega.{arith}
-use borrow.Author.Tests.{le-leb}
 use denote.Ref.{RefT}
-use lib.Dec.{leb, lit<}
-use lib.ListN.{length, take, drop, replicate, length-drop}
+use lib.Dec.{lit<}
+use lib.ListN.{length, take, drop, replicate, length-append, length-drop}
 use Rattle.basics.specs.Each.{all}
-use Rattle.basics.proofs.Laws.Test.{both-true, never}
+use Rattle.basics.proofs.Laws.Test.{never}
 use Rattle.basics.specs.Below.{Bytes}
-use Rattle.rs.specs.Decode.{changes}
-use Rattle.rs.proofs.Laws.Distance.{differ-le, changes-self}
+use Rattle.basics.proofs.Laws.Below.{drop-below}
 use Rattle.rules.specs.Rules.{soundRule, soundByte, oneOf}
 use Rattle.items.specs.Items.{items}
 use Rattle.items.specs.Item.{rowOf, refusedIn, itemRefusal}
+use Rattle.anc.specs.Word.{bit, ones, isSound}
 use Rattle.anc.specs.Words.{narrow}
+use Rattle.anc.proofs.Laws.Words.{narrow-append, narrow-below, below-narrow}
 use Rattle.refusal.specs.Checked.{checkedOf}
 use Rattle.soundness.specs.Check.{soundnessOf, wordsRefusal}
 use Rattle.rs.specs.Check.{verdictOf}
 use Rattle.writing.specs.Written.{writtenOf, writeLeaves}
 use Rattle.repair.specs.Repair.{repairedOf, repairLeaves}
+use Rattle.rs.specs.Marked.{marksIn}
+use Rattle.search.specs.Marked.{confessed}
+use Rattle.repair.proofs.Laws.Damage.{worth, length-worth, front-damage}
 use Rattle.reading.specs.Answer.{readingOf, readingIntoOf, readLeaves}
 use Rattle.reading.specs.Reading.{protectedOf}
 use Rattle.desk.specs.declared.Desk.{Desk}
@@ -138,41 +141,25 @@ repair-call words old =
 pub show-call : (field : List ℕ) → Shows field (shown field)
 show-call field = record { κs = ([], tt); input = (lend field, tt); exit = (lend field, tt); lent = refl; allowed = shown-sized field (shown field) refl }
 
--- ---- any packet on a line can be damaged in three words
+-- ---- any packet on a line can be damaged so
 
--- other words in the first three protected places
-abbrev pub struck : List ℕ → ℕ → ℕ → ℕ → List ℕ
-struck words x y z = take 7 words ++ (x ∷ y ∷ z ∷ drop 3 (protectedOf words)) ++ drop 261 words
+-- other words in the first protected places
+abbrev pub struck : List ℕ → List ℕ → List ℕ
+struck words us = take 7 words ++ (us ++ drop (length us) (protectedOf words)) ++ drop 261 words
 
-few-struck : (p : List ℕ) (x y z : ℕ) → changes (x ∷ y ∷ z ∷ drop 3 p) p ≤ 3
-unfolding changes
-few-struck [] x y z = omega arith
-few-struck (a ∷ []) x y z = omega (arith, differ-le x a)
-few-struck (a ∷ b ∷ []) x y z = omega (arith, differ-le x a, differ-le y b)
-few-struck (a ∷ b ∷ c ∷ p) x y z = omega (arith, differ-le x a, differ-le y b, differ-le z c, changes-self p)
+narrow-drop : (n : ℕ) (p : List ℕ) → narrow p ≡ true → narrow (drop n p) ≡ true
+narrow-drop n p w = below-narrow (drop n p) (drop-below 1024 n p (narrow-below p w))
 
-narrow-rest : (a : ℕ) (p : List ℕ) → narrow (a ∷ p) ≡ true → narrow p ≡ true
-unfolding narrow all
-narrow-rest a p n = both-true (leb a 1023) _ n .1
-
-narrow-front : (a : ℕ) (p : List ℕ) → a ≤ 1023 → narrow p ≡ true → narrow (a ∷ p) ≡ true
-unfolding narrow all
-narrow-front a p h n = ap₂ _&&_ (le-leb a 1023 h) n
-
-narrow-drop : (p : List ℕ) → narrow p ≡ true → narrow (drop 3 p) ≡ true
-narrow-drop [] n = n
-narrow-drop (a ∷ []) n = narrow-rest a [] n
-narrow-drop (a ∷ b ∷ []) n = narrow-rest b [] (narrow-rest a (b ∷ []) n)
-narrow-drop (a ∷ b ∷ c ∷ p) n = narrow-rest c p (narrow-rest b (c ∷ p) (narrow-rest a (b ∷ c ∷ p) n))
-
-pub strike : (words : List ℕ) (x y z : ℕ) → Ordinary words → x ≤ 1023 → y ≤ 1023 → z ≤ 1023 → Delivers words (struck words x y z)
-strike words x y z o hx hy hz =
+-- by words of ten bits: those that are not sound count once, and the others twice
+pub strike : (words us : List ℕ) → Ordinary words → narrow us ≡ true → worth us ≤ 6 → Delivers words (struck words us)
+strike words us o w h =
     let p : List ℕ = protectedOf words in
+    let few : length us ≤ length p = omega (arith, o .long, length-worth us) in
     record {
-      protected = x ∷ y ∷ z ∷ drop 3 p;
-      long = omega (arith, o .long, length-drop 3 p);
-      ten-bits = narrow-front x _ hx (narrow-front y _ hy (narrow-front z _ hz (narrow-drop p (o .ten-bits))));
-      few = few-struck p x y z;
+      protected = us ++ drop (length us) p;
+      long = simp (length-append, length-drop) (omega (arith, o .long));
+      ten-bits = narrow-append us _ w (narrow-drop (length us) p (o .ten-bits));
+      few = omega (arith, front-damage us p few (o .sound));
       rest = refl;
     }
 
@@ -215,17 +202,31 @@ module _ (s : Scene) (l : Line s) where
   no-room-on old n = no-room l n (send-call (s .desk) old)
 
   -- a delivery with damage, and a repeat
-  abbrev heard-on : ℕ → ℕ → ℕ → ℕ → Scene
-  heard-on x y z repeated = heard s (followed (s .follower) (struck (s .words) x y z)) repeated
+  abbrev heard-on : List ℕ → ℕ → Scene
+  heard-on us repeated = heard s (followed (s .follower) (struck (s .words) us)) repeated
 
-  module _ (x y z : ℕ) (hx : x ≤ 1023) (hy : y ≤ 1023) (hz : z ≤ 1023) where
-    pub deliver-on : s .fate ≡ waiting → (s .begun ≡ true → s .gap ≤ 14) → Line (heard-on x y z (s .repeated))
-    deliver-on w few = delivers l w few (strike (s .words) x y z (waiting-ordinary s l w) hx hy hz) (follow-call (s .follower) (struck (s .words) x y z))
+  module _ (us : List ℕ) (w : narrow us ≡ true) (h : worth us ≤ 6) where
+    pub deliver-on : s .fate ≡ waiting → (s .begun ≡ true → s .gap ≤ 14) → Line (heard-on us (s .repeated))
+    deliver-on q few = delivers l q few (strike (s .words) us (waiting-ordinary s l q) w h) (follow-call (s .follower) (struck (s .words) us))
 
-    pub repeat-on : (h : Heard) → s .fate ≡ delivered h → Line (heard-on x y z (s .repeated + 1))
-    repeat-on h w = repeats l w (strike (s .words) x y z (delivered-ordinary s h l w) hx hy hz) (follow-call (s .follower) (struck (s .words) x y z))
+    pub repeat-on : (before : Heard) → s .fate ≡ delivered before → Line (heard-on us (s .repeated + 1))
+    repeat-on before q = repeats l q (strike (s .words) us (delivered-ordinary s before l q) w h) (follow-call (s .follower) (struck (s .words) us))
 
 -- ---- a line worked out
+
+-- six words that confess; two that do and two that don't; three that don't
+abbrev six-confess : List ℕ
+six-confess = 0x000 ∷ 0x001 ∷ 0x002 ∷ 0x3FD ∷ 0x3FE ∷ 0x3FF ∷ []
+
+abbrev two-and-two : List ℕ
+two-and-two = 0x003 ∷ 0x101 ∷ 0x004 ∷ 0x203 ∷ []
+
+abbrev three-silent : List ℕ
+three-silent = 0x101 ∷ 0x102 ∷ 0x203 ∷ []
+
+pub confess : (marksIn (confessed six-confess) ≡ 6) × (marksIn (confessed two-and-two) ≡ 2) × (marksIn (confessed three-silent) ≡ 0)
+unfolding marksIn confessed isSound ones bit
+confess = (refl, refl, refl)
 
 -- what is so of a scene with one packet missed and one repeated, in which the opening record was sent
 pub record Worked : Type 0 where
@@ -245,20 +246,21 @@ given-back : undoTo (edited-once .earlier) edited-once .present ≡ desk-opening
 unfolding fresh editM sendM itemRefusal refusedIn rowOf items soundRule soundByte oneOf all
 given-back = refl
 
--- the desk opens and sends; a send into no room is refused while the packet is on the line; the packet arrives damaged, and once more with other
--- damage; an edit; the next packet is dropped; an undo; the packet after that arrives damaged
+-- the desk opens and sends; a send into no room is refused while the packet is on the line; the packet arrives with six words that confess, and once more
+-- with two that do and two that don't; an edit; the next packet is dropped; an undo; the packet after that arrives with three that don't
 pub worked : Worked
+unfolding narrow all isSound ones bit
 worked =
     let l1 = send-on _ (opens (open-call true) begin-call) refl in
     let l2 = no-room-on _ l1 [] (λ e. omega arith) in
-    let l3 = deliver-on _ l2 0 1 2 (omega arith) (omega arith) (omega arith) refl (λ e. never (sym e)) in
-    let l4 = repeat-on _ l3 3 4 5 (omega arith) (omega arith) (omega arith) _ refl in
+    let l3 = deliver-on _ l2 six-confess refl (omega arith) refl (λ e. never (sym e)) in
+    let l4 = repeat-on _ l3 two-and-two refl (omega arith) _ refl in
     let l5 = edit-on _ l4 6 (0x12 ∷ []) (lit< tt, tt) in
     let l6 = send-on _ l5 refl in
     let l7 = drops l6 refl in
     let l8 = undo-on _ l7 in
     let l9 = send-on _ l8 refl in
-    let l10 = deliver-on _ l9 1021 1022 1023 (omega arith) (omega arith) (omega arith) refl (λ e. omega arith) in
+    let l10 = deliver-on _ l9 three-silent refl (omega arith) refl (λ e. omega arith) in
     let A = demand-3 _ _ l10 refl in
     record {
       scene = _;

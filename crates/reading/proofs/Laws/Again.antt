@@ -21,14 +21,13 @@ use Rattle.basics.proofs.Laws.Test.{both-true, lt-or-le}
 use Rattle.basics.proofs.Laws.Parts.{part-entries, same-cons, last-one}
 use Rattle.refusal.proofs.Laws.Chain.{require-passed, next-passed}
 use Rattle.rs.specs.Codeword.{parityOf, Codeword}
-use Rattle.rs.specs.Decode.{repaired}
 use Rattle.record.specs.Record.{broken}
 use Rattle.items.specs.Items.{items}
-use Rattle.repair.specs.Protected.{rewritten}
+use Rattle.repair.specs.Protected.{repaired, rewritten}
 use Rattle.anc.specs.Words.{flag, lowBytes, soundWords, narrow}
 use Rattle.writing.specs.Layout.{headerWord, protectedWords, summedWords, packetWords}
 use Rattle.anc.proofs.Laws.Words.{flag-words, low-words}
-use Rattle.rs.proofs.Laws.Decode.{repaired-codeword}
+use Rattle.repair.proofs.Laws.Repair.{repaired-codeword}
 use Rattle.writing.proofs.Laws.Layout.{packet-carries, summed-shape, protected-on}
 use Rattle.reading.specs.Reading.{word, correctionOf, indexOf, protectedOf, readWords, readBytes, summedOf, isFill, headRefusal, protectedRefusal, bodyRefusal, readRefusal, rewrittenPacket}
 
@@ -137,7 +136,7 @@ protected-again : (ws : List ℕ) → Accepted ws → (on : Bool) → correction
 unfolding protectedRefusal readBytes readWords rewritten
 protected-again ws A true e =
     let p = require-passed _ _ _ (rw e at (A .guarded)) in
-    rw e (on-again (repaired (lowBytes (protectedOf ws))) (repaired-codeword _ (p .0)))
+    rw e (on-again (repaired (protectedOf ws)) (repaired-codeword (protectedOf ws) (p .0)))
 protected-again ws A false e =
     let p = next-passed _ _ (rw e at (A .guarded)) in
     let q = require-passed _ _ _ (p .1) in

@@ -15,22 +15,22 @@ use Rattle.refusal.specs.Number.{refusalPlain}
 use Rattle.refusal.specs.declared.Refusal.{Refusal}
 use Rattle.refusal.specs.declared.Reason.the-variants.{Room}
 use Rattle.refusal.proofs.Laws.Chain.{require-passed, next-passed, told}
-use Rattle.rs.specs.Decode.{repaired, changes}
+use Rattle.rs.specs.Decode.{changes}
 use Rattle.record.specs.Record.{broken, recordOf, recordRefusal}
 use Rattle.items.specs.Items.{items}
 use Rattle.refusal.specs.Checked.{checkedOf, refusalIn as refusalInCheck}
 use Rattle.record.specs.Written.{writtenRefusal, written}
 use Rattle.refusal.specs.declared.Checked.{Checked}
 use Rattle.refusal.specs.declared.Checked.the-variants.{Passed, Refused}
-use Rattle.repair.specs.Protected.{rewritten, fixedOf}
-use Rattle.anc.specs.Words.{lowBytes, soundWords}
+use Rattle.repair.specs.Protected.{repaired, rewritten, fixedOf}
+use Rattle.anc.specs.Words.{soundWords}
 use Rattle.refusal.specs.Chain.{leftBy}
 use Rattle.reading.specs.Reading.{correctionOf, indexOf, protectedOf, readWords, readBytes, summedOf, readFixed, headRefusal, protectedRefusal, bodyRefusal, readRefusal, readIntoRefusal, readRecord}
 use Rattle.reading.specs.Answer.{guardBytes, summedBy, packetBy, tailRefusal, refusalIn, packetIn, packetOf, readingBy, readingOf, readingIntoOf, readLeaves}
 use Rattle.reading.specs.declared.Packet.{Packet}
 use Rattle.reading.specs.declared.Reading.{Reading}
 use Rattle.reading.specs.declared.Reading.the-variants.{Accepted, Refused as RefusedReading}
-use Rattle.anc.proofs.Laws.Words.{low-words, low-bytes}
+use Rattle.anc.proofs.Laws.Words.{low-words}
 use Rattle.repair.proofs.Laws.Repair.{repaired-bytes}
 use Rattle.record.proofs.Laws.Record.{rules-decide}
 use Rattle.reading.proofs.Laws.Reader.{guardBytes-length}
@@ -40,7 +40,7 @@ use Rattle.reading.proofs.Laws.Again.{accepted-parts, length-part}
 
 sound-guard : (q : List ℕ) → soundWords (guardBytes true q) ≡ rewritten q
 unfolding guardBytes rewritten
-sound-guard q = ap soundWords (low-words (repaired (lowBytes q)) (repaired-bytes (lowBytes q) (low-bytes q)))
+sound-guard q = ap soundWords (low-words (repaired q) (repaired-bytes q))
 
 summed-guard : (ws : List ℕ) → summedBy (correctionOf ws) ws (guardBytes (correctionOf ws) (protectedOf ws)) ≡ summedOf ws
 unfolding summedBy summedOf readWords

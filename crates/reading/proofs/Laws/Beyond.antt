@@ -7,14 +7,13 @@ use mathlib.Core.Logic.{_↔_, Iff·trans}
 use mathlib.Core.Option.{Option, none, some}
 use Prim.Native.Nat.{ℕ}
 use lib.Dec.{lit<}
-use Rattle.anc.specs.Words.{lowBytes}
 use Rattle.soundness.proofs.Laws.Run.{unsound-without}
 use Rattle.refusal.specs.Chain.{require, passed}
 use Rattle.refusal.specs.Number.{numberOf, refusalPlain}
 use Rattle.refusal.specs.declared.Reason.the-variants.{BeyondRepair}
 use Rattle.refusal.specs.declared.Refusal.{Refusal}
 use Rattle.refusal.proofs.Laws.Chain.{passed-other, require-gives, next-gives, Without, without, never-gives}
-use Rattle.rs.specs.Decode.{repairable}
+use Rattle.repair.specs.Protected.{repairable}
 use Rattle.repair.specs.Reach.{WithinReach}
 use Rattle.repair.proofs.Laws.Reach.{beyond-reach}
 use Rattle.reading.specs.Reading.{correctionOf, protectedOf, headRefusal, protectedRefusal, bodyRefusal, readRefusal, readIntoRefusal}
@@ -35,8 +34,8 @@ module _ (ws : List ℕ) (head : headRefusal ws ≡ none) (on : correctionOf ws 
   unfolding readRefusal bodyRefusal
   read-beyond =
       rw (head, guarded-on (correctionOf ws) (protectedOf ws) on)
-      (Iff·trans (next-gives (require (repairable (lowBytes (protectedOf ws))) nine passed) _ nine (not-nine (tail-without 9 (lit< tt) ws)))
-      (Iff·trans (require-gives (repairable (lowBytes (protectedOf ws))) nine passed (passed-other nine)) (beyond-reach (protectedOf ws))))
+      (Iff·trans (next-gives (require (repairable (protectedOf ws)) nine passed) _ nine (not-nine (tail-without 9 (lit< tt) ws)))
+      (Iff·trans (require-gives (repairable (protectedOf ws)) nine passed (passed-other nine)) (beyond-reach (protectedOf ws))))
 
   -- into any room
   pub into-beyond : (room : ℕ) → (readIntoRefusal ws room ≡ some (refusalPlain BeyondRepair)) ↔ (WithinReach (protectedOf ws) → ⊥)

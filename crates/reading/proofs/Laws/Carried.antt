@@ -1,5 +1,5 @@
--- What a reader finds of a packet as it is written: the same record, index and correction bit, also where up to three protected words were
--- changed on the way.
+-- What a reader finds of a packet as it is written: the same record, index and correction bit, also where protected words were changed on the
+-- way and are read as they were written.
 -- Assumes nothing.
 use mathlib.Core.Path.{_≡_, refl, sym, ap, ap₂, _∙_}
 use mathlib.Core.Bool.{Bool, true, _&&_}

@@ -12,13 +12,14 @@ use Rattle.soundness.specs.Check.{unsoundFrom}
 use Rattle.refusal.specs.Chain.{require, next, passed}
 use Rattle.refusal.specs.Number.{refusalPlain}
 use Rattle.refusal.specs.declared.Reason.the-variants.{Fill, BeyondRepair}
-use Rattle.rs.specs.Decode.{changes, repairable, repaired, decodeRefusal}
-use Rattle.rs.proofs.Laws.Decode.{decode-decides}
+use Rattle.rs.specs.Decode.{changes}
+use Rattle.search.specs.Marked.{markedRefusal, markedLeaves}
+use Rattle.search.proofs.Laws.Marked.{marked-decides, marked-leaves}
 use Rattle.basics.specs.Each.{all}
 use Rattle.basics.proofs.Laws.Parts.{join, part-entries}
 use Rattle.reading.specs.declared.Packet.{Packet}
 use Rattle.refusal.specs.declared.Refusal.{Refusal}
-use Rattle.repair.specs.Protected.{rewritten}
+use Rattle.repair.specs.Protected.{repairable, repaired, rewritten}
 use Rattle.repair.specs.Repair.{countedOf}
 use Rattle.repair.specs.declared.Repaired.{Repaired}
 use Rattle.repair.specs.declared.Repaired.the-variants.{Fixed, Refused}
@@ -26,29 +27,30 @@ use Rattle.repair.proofs.Laws.Changes.{counted-words}
 use Rattle.anc.specs.Words.{lowBytes, soundWords}
 use Rattle.reading.specs.Reading.{word, correctionOf, indexOf, protectedOf, dataWords, isFill, protectedRefusal}
 use Rattle.reading.specs.Answer.{packetBy, guardBytes, summedBy}
-use Rattle.anc.proofs.Laws.Words.{lowBytes-length, soundWords-length, low-bytes, low-words}
+use Rattle.anc.proofs.Laws.Words.{lowBytes-length, soundWords-length, low-words}
 use Rattle.repair.proofs.Laws.Repair.{repaired-bytes, rewritten-length}
 
 -- ---- the protected words
 
 module _ (on : Bool) (ws : List ℕ) where
-  pub guarded-on : on ≡ true → protectedRefusal on ws ≡ require (repairable (lowBytes ws)) (refusalPlain BeyondRepair) passed
+  pub guarded-on : on ≡ true → protectedRefusal on ws ≡ require (repairable ws) (refusalPlain BeyondRepair) passed
   unfolding protectedRefusal
   guarded-on e = rw e
 
-  -- that is what repair of their bytes is refused for
-  pub repair-decides : on ≡ true → length ws ≡ 254 → decodeRefusal (lowBytes ws) ≡ protectedRefusal on ws
-  repair-decides e n = decode-decides (lowBytes ws) (lowBytes-length ws ∙ n) ∙ sym (guarded-on e)
+  -- that is what repair of their bytes with the words is refused for
+  pub repair-decides : on ≡ true → length ws ≡ 254 → markedRefusal ws (lowBytes ws) ≡ protectedRefusal on ws
+  unfolding repairable
+  repair-decides e n = marked-decides ws (lowBytes ws) n (lowBytes-length ws ∙ n) ∙ sym (guarded-on e)
 
   pub guarded-off : on ≡ false
       → protectedRefusal on ws ≡ next (unsoundFrom 1 (dataWords ws)) (require (all isFill (drop 248 ws)) (refusalPlain Fill) passed)
   unfolding protectedRefusal
   guarded-off e = rw e
 
-  -- the repaired bytes are those of the words that they are rewritten as
-  pub bytes-on : on ≡ true → repaired (lowBytes ws) ≡ guardBytes on ws
-  unfolding guardBytes rewritten
-  bytes-on e = rw e (sym (low-words (repaired (lowBytes ws)) (repaired-bytes _ (low-bytes ws))))
+  -- the bytes that it leaves are those of the words that they are rewritten as
+  pub bytes-on : on ≡ true → length ws ≡ 254 → markedLeaves ws (lowBytes ws) ≡ guardBytes on ws
+  unfolding guardBytes rewritten repaired
+  bytes-on e n = marked-leaves ws (lowBytes ws) n (lowBytes-length ws ∙ n) ∙ rw e (sym (low-words (repaired ws) (repaired-bytes ws)))
 
   pub bytes-off : on ≡ false → lowBytes ws ≡ guardBytes on ws
   unfolding guardBytes

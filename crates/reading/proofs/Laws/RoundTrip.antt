@@ -14,37 +14,32 @@ use Rattle.soundness.proofs.Laws.Run.{sound-passed}
 use Rattle.basics.specs.Each.{all}
 use Rattle.rs.specs.Codeword.{parityOf}
 use Rattle.basics.specs.Below.{Bytes}
-use Rattle.rs.specs.Decode.{changes, Within}
-use Rattle.rs.proofs.Laws.Distance.{changes-self, changes-sym}
+use Rattle.rs.specs.Decode.{changes}
+use Rattle.rs.proofs.Laws.Distance.{changes-self}
 use Rattle.record.specs.Record.{broken}
 use Rattle.items.specs.Items.{items}
-use Rattle.anc.specs.Words.{lowBytes, soundWords, narrow}
+use Rattle.anc.specs.Words.{soundWords, narrow}
 use Rattle.writing.specs.Layout.{protectedWords, packetWords, carrying}
 use Rattle.reading.specs.Reading.{correctionOf, protectedOf, readWords, readFixed, isFill, protectedRefusal}
 use Rattle.reading.specs.Answer.{packetOf}
-use Rattle.anc.proofs.Laws.Words.{lowBytes-length, low-words, soundWords-length, words-all}
-use Rattle.repair.proofs.Laws.Changes.{low-changes}
+use Rattle.anc.proofs.Laws.Words.{soundWords-length, words-all}
+use Rattle.repair.specs.Reach.{damage}
+use Rattle.repair.proofs.Laws.Damage.{few-damage, damage-within}
 use Rattle.repair.proofs.Laws.Repair.{Recovered, repair-recovers}
 use Rattle.writing.proofs.Laws.Layout.{written-codeword, protected-on, length-protected, protected-narrow, packet-carries}
 use Rattle.reading.proofs.Laws.Carried.{Reads, carried-correction, carried-protected, reads}
 
--- ---- correction on, and up to three protected words changed
+-- ---- correction on, and protected words changed with 2e + f at most 6
 
 module _ (ci : ℕ) (r q : List ℕ) (hc : ci ≤ 15) (nr : length r ≡ 248) (br : Bytes r) (nq : length q ≡ 254) (wq : narrow q ≡ true)
-    (few : changes q (protectedWords true r) ≤ 3) where
+    (few : damage q (protectedWords true r) ≤ 6) where
   abbrev ws : List ℕ
   ws = carrying true ci r q
 
-  -- a byte changed only where its word did
-  near : Within (lowBytes q) (r ++ parityOf r)
-  near =
-      let C = written-codeword r nr br in
-      let sent : lowBytes (protectedWords true r) ≡ r ++ parityOf r = ap lowBytes (protected-on r) ∙ low-words (r ++ parityOf r) (C .bytes) in
-      let less : changes (lowBytes q) (lowBytes (protectedWords true r)) ≤ 3 = omega (arith, low-changes q (protectedWords true r)) in
-      record { word = C; long = C .long ∙ sym nq ∙ sym (lowBytes-length q); near = rw (changes-sym (r ++ parityOf r) (lowBytes q)) (rw sent at less) }
-
   mend : Recovered q (soundWords (r ++ parityOf r))
-  mend = repair-recovers (r ++ parityOf r) q near
+  mend =
+      let C = written-codeword r nr br in
+      repair-recovers (r ++ parityOf r) q (damage-within (r ++ parityOf r) q C (nq ∙ sym (C .long)) (rw (protected-on r) at few))
 
   on : correctionOf ws ≡ true
   on = carried-correction true ci r q hc nr br nq wq
@@ -103,11 +98,20 @@ module _ (ci : ℕ) (r : List ℕ) (hc : ci ≤ 15) (nr : length r ≡ 248) (br 
   unfolding readFixed
   off-fixed = simp off
 
+-- with correction on each protected word is written sound
+pub protected-sound : (r : List ℕ) → length r ≡ 248 → Bytes r → all isSound (protectedWords true r) ≡ true
+protected-sound r nr br = ap (all isSound) (protected-on r) ∙ words-all isSound word-sound _ (written-codeword r nr br .bytes)
+
+-- so that as it was written it has no damage
+written-damage : (r : List ℕ) → length r ≡ 248 → Bytes r → damage (protectedWords true r) (protectedWords true r) ≤ 6
+written-damage r nr br =
+    few-damage (protectedWords true r) (protectedWords true r) refl (protected-sound r nr br) (omega (arith, changes-self (protectedWords true r)))
+
 -- a packet as it was written reads as its record, index and correction bit, with nothing fixed
 pub written-reads : (on : Bool) (ci : ℕ) (r : List ℕ) → ci ≤ 15 → length r ≡ 248 → Bytes r → broken items r ≡ none → Reads (packetWords on ci r) on ci r
 written-reads true ci r hc nr br b =
     rw packet-carries
-    (damaged-reads ci r (protectedWords true r) hc nr br (length-protected true r nr) (protected-narrow true r br) (omega (arith, changes-self (protectedWords true r))) b)
+    (damaged-reads ci r (protectedWords true r) hc nr br (length-protected true r nr) (protected-narrow true r br) (written-damage r nr br) b)
 written-reads false ci r hc nr br b =
     rw packet-carries
     (reads false ci r (protectedWords false r) hc nr br (length-protected false r nr) (protected-narrow false r br) (off-read ci r hc nr br) (off-passes ci r hc nr br) b)
@@ -115,7 +119,7 @@ written-reads false ci r hc nr br b =
 pub written-fixed : (on : Bool) (ci : ℕ) (r : List ℕ) → ci ≤ 15 → length r ≡ 248 → Bytes r → readFixed (packetWords on ci r) ≡ 0
 written-fixed true ci r hc nr br =
     rw packet-carries
-    (damaged-fixed ci r (protectedWords true r) hc nr br (length-protected true r nr) (protected-narrow true r br) (omega (arith, changes-self (protectedWords true r)))
+    (damaged-fixed ci r (protectedWords true r) hc nr br (length-protected true r nr) (protected-narrow true r br) (written-damage r nr br)
     ∙ changes-self (protectedWords true r))
 written-fixed false ci r hc nr br = rw packet-carries (off-fixed ci r hc nr br)
 

@@ -12,7 +12,7 @@ use lib.Seq.{drop-drop, length-take-le}
 use Rattle.basics.specs.Below.{Bytes}
 use Rattle.rs.proofs.Laws.Distance.{changes-zero}
 use Rattle.basics.proofs.Laws.Below.{take-below}
-use Rattle.rs.proofs.Laws.Decode.{repaired-codeword}
+use Rattle.repair.proofs.Laws.Repair.{repaired-codeword}
 use Rattle.refusal.proofs.Laws.Chain.{require-passed}
 use Rattle.repair.specs.Protected.{rewritten, fixedOf}
 use Rattle.anc.specs.Words.{lowBytes}
@@ -31,7 +31,7 @@ length-read : (ws : List ℕ) → Accepted ws → (on : Bool) → correctionOf w
 unfolding readWords protectedRefusal rewritten
 length-read ws A true e =
     let p = require-passed _ _ _ (rw e at (A .guarded)) in
-    rw e (soundWords-length _ ∙ repaired-codeword _ (p .0) .long)
+    rw e (soundWords-length _ ∙ repaired-codeword (protectedOf ws) (p .0) .long)
 length-read ws A false e = rw e (length-part ws (A .long))
 
 pub read-length : (ws : List ℕ) → readRefusal ws ≡ none → length (readBytes ws) ≡ 248

@@ -1,8 +1,8 @@
--- The places in which two lists of words differ, counted one after the other; their bytes differ in no others.
+-- The places in which two lists of words differ, counted one after the other, and the answer of counting 254 words against 254 bytes.
 -- Assumes nothing.
-use mathlib.Core.Path.{_≡_, refl, ap, ap₂, _∙_}
+use mathlib.Core.Path.{_≡_, refl, ap₂, _∙_}
 use mathlib.Core.List.{List, [], _∷_}
-use Prim.Native.Nat.{ℕ, zero, suc, _+_, _%_, _≤_, _<_}
+use Prim.Native.Nat.{ℕ, zero, suc, _+_, _≤_, _<_}
 use native.Mathlib.Nat.{le-of-suc-le-suc, not-suc-le-zero}
 use native.Mathlib.Numerals.{add-one}
 use native.Mathlib.Omega.{arith}
@@ -10,8 +10,8 @@ use borrow.Author.Tests.{eq-eqb, ne-eqb}
 use lib.ListN.{length, take, getD}
 use lib.Seq.{take-all}
 use Rattle.rs.specs.Decode.{changes}
-use Rattle.rs.proofs.Laws.Distance.{differ, place, differ-le, differ-same}
-use Rattle.anc.specs.Words.{lowBytes, soundWords}
+use Rattle.rs.proofs.Laws.Distance.{differ, place, differ-same}
+use Rattle.anc.specs.Words.{soundWords}
 use Rattle.refusal.specs.Number.{refusalPlain}
 use Rattle.refusal.specs.declared.Reason.the-variants.{Size}
 use Rattle.repair.specs.declared.Repaired.the-variants.{Fixed, Refused}
@@ -44,19 +44,6 @@ module _ (a b : List ℕ) (i : ℕ) (h : i < length a) (k : i < length b) where
 -- all places
 pub changes-all : (a b : List ℕ) (i : ℕ) → length a ≤ i → length b ≤ i → changes (take i a) (take i b) ≡ changes a b
 changes-all a b i h k = ap₂ changes (take-all i a h) (take-all i b k)
-
--- words that are alike carry bytes that are alike
-low-differ : (a b : ℕ) → differ (a % 256) (b % 256) ≤ differ a b
-low-differ a b =
-    place (λ x. differ (a % 256) (b % 256) ≤ x) a b
-    (λ e. omega (arith, differ-same (a % 256) (b % 256) (ap (λ (w : ℕ). w % 256) e)))
-    (λ n. differ-le (a % 256) (b % 256))
-
-pub low-changes : (a b : List ℕ) → changes (lowBytes a) (lowBytes b) ≤ changes a b
-unfolding lowBytes changes
-low-changes [] b = omega arith
-low-changes (x ∷ a) [] = omega arith
-low-changes (x ∷ a) (y ∷ b) = omega (arith, low-differ x y, low-changes a b)
 
 -- ---- words against bytes, 254 of each
 

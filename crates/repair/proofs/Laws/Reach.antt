@@ -13,23 +13,25 @@ use Rattle.anc.specs.Words.{lowBytes, narrow}
 use Rattle.refusal.specs.Number.{numberOf, refusalPlain}
 use Rattle.refusal.specs.declared.Reason.the-variants.{BeyondRepair}
 use Rattle.refusal.proofs.Laws.Chain.{require-gives, without, never-gives}
-use Rattle.rs.specs.Decode.{decode, given, repairable}
-use Rattle.rs.proofs.Laws.Decode.{decode-sound, decode-complete}
-use Rattle.repair.specs.Protected.{repairRefusal}
+use Rattle.rs.specs.Decode.{given}
+use Rattle.rs.specs.Marked.{decodeBoth, repairableMarked}
+use Rattle.rs.proofs.Laws.Marked.{both-sound, both-given}
+use Rattle.search.specs.Marked.{confessed}
+use Rattle.repair.specs.Protected.{repairable, repairRefusal}
 use Rattle.repair.specs.Reach.{WithinReach}
 
 -- the test passes exactly when a codeword is within reach
-pub repairable-reach : (words : List ℕ) → (repairable (lowBytes words) ≡ true) ↔ WithinReach words
-unfolding repairable WithinReach
-repairable-reach words = (found (decode (lowBytes words)) refl, λ (c, W). ap given (decode-complete (lowBytes words) c (W .word) (W .long) (W .near)))
+pub repairable-reach : (words : List ℕ) → (repairable words ≡ true) ↔ WithinReach words
+unfolding repairable repairableMarked WithinReach
+repairable-reach words = (found (decodeBoth (confessed words) (lowBytes words)) refl, λ (c, W). ap given (both-given (confessed words) (lowBytes words) c W .1))
   where
-    found : (o : Option (List ℕ)) → decode (lowBytes words) ≡ o → given o ≡ true → WithinReach words
+    found : (o : Option (List ℕ)) → decodeBoth (confessed words) (lowBytes words) ≡ o → given o ≡ true → WithinReach words
     found none e t = never (sym t)
-    found (some c) e t = (c, decode-sound (lowBytes words) c e)
+    found (some c) e t = (c, both-sound (confessed words) (lowBytes words) c e)
 
 -- and fails exactly when none is
-pub beyond-reach : (words : List ℕ) → (repairable (lowBytes words) ≡ false) ↔ (WithinReach words → ⊥)
-beyond-reach words = Iff·trans (fails (repairable (lowBytes words))) (Iff·not (repairable-reach words))
+pub beyond-reach : (words : List ℕ) → (repairable words ≡ false) ↔ (WithinReach words → ⊥)
+beyond-reach words = Iff·trans (fails (repairable words)) (Iff·not (repairable-reach words))
 
 -- of 254 words of ten bits, into any room
 pub repair-beyond : (words : List ℕ) (room : ℕ) → length words ≡ 254 → narrow words ≡ true
@@ -38,5 +40,5 @@ unfolding repairRefusal numberOf
 repair-beyond words room n w =
     simp (eq-eqb (length words) 254 n, w)
     (Iff·trans
-    (require-gives (repairable (lowBytes words)) (refusalPlain BeyondRepair) _ (never-gives (refusalPlain BeyondRepair) (search without)))
+    (require-gives (repairable words) (refusalPlain BeyondRepair) _ (never-gives (refusalPlain BeyondRepair) (search without)))
     (beyond-reach words))

@@ -8,9 +8,11 @@ use borrow.Author.Needs.{needs}
 use lib.ListN.{length}
 use borrow.Author.Tests.{not-true, not-false}
 use Rattle.refusal.specs.Checked.{checkedOf}
-use Rattle.rs.specs.Decode.{changes, repaired, decodeRefusal}
+use Rattle.rs.specs.Decode.{changes}
+use Rattle.search.specs.Marked.{markedRefusal, markedLeaves}
+use Rattle.search.proofs.Laws.Marked.{marked-leaves}
 use Rattle.repair.specs.declared.Repaired.the-variants.{Fixed, Refused}
-use Rattle.repair.specs.Protected.{rewritten, fixedOf}
+use Rattle.repair.specs.Protected.{repaired, rewritten, fixedOf}
 use Rattle.anc.specs.Words.{soundWords, narrow}
 use Rattle.anc.proofs.Laws.Words.{lowBytes-length, low-filled, sound-filled}
 use Rattle.repair.proofs.Laws.Changes.{counted-words}
@@ -40,7 +42,7 @@ returns-3 c =
     let ws = s .args .words .now in
     let low = low-filled _ ws _ (b .low-bytes .ensures .1) (f .if1 .left) in
     let n : narrow ws ≡ true = sym (e .before .narrow .ensures) ∙ not-false _ (e .if2 .left) in
-    let A = beyond-repair ws (s .args .out .now) (r .repair .result) (f .if1 .left) (r .repair .ensures .0 ∙ ap (λ (l : List ℕ). checkedOf (decodeRefusal l)) low) _ n (c .before .near .given .1) in
+    let A = beyond-repair ws (s .args .out .now) (r .repair-marked .result) (f .if1 .left) (r .repair-marked .ensures .0 ∙ ap (λ (l : List ℕ). checkedOf (markedRefusal ws l)) low) _ n (c .before .near .given .1) in
     (A .right, A .kept)
 
 returns-4 : tie.Need-returns-4
@@ -55,12 +57,12 @@ returns-4 c =
     let old = s .args .out .now in
     let low = low-filled _ ws _ (b .low-bytes .ensures .1) (f .if1 .left) in
     let n : narrow ws ≡ true = sym (e .before .narrow .ensures) ∙ not-false _ (e .if2 .left) in
-    let y = within-repair ws old (r .repair .result) (f .if1 .left) (r .repair .ensures .0 ∙ ap (λ (l : List ℕ). checkedOf (decodeRefusal l)) low) (t .enum-told .given .1) in
+    let y = within-repair ws old (r .repair-marked .result) (f .if1 .left) (r .repair-marked .ensures .0 ∙ ap (λ (l : List ℕ). checkedOf (markedRefusal ws l)) low) (t .enum-told .given .1) in
     let A = wrong-room ws old (f .if1 .left) n y (c .before .if3 .taken) in
     (ap Refused (c .plain3 .ensures) ∙ A .right, A .kept)
 
 returns-5 : tie.Need-returns-5
-unfolding rewritten fixedOf
+unfolding repaired rewritten fixedOf
 returns-5 c =
     let w = c .before .before .before .before in
     let d = w .before .before .before in
@@ -76,9 +78,9 @@ returns-5 c =
     let room = d .if3 .left in
     let low = low-filled _ ws _ (b .low-bytes .ensures .1) long in
     let n : narrow ws ≡ true = sym (e .before .narrow .ensures) ∙ not-false _ (e .if2 .left) in
-    let y = within-repair ws old (r .repair .result) long (r .repair .ensures .0 ∙ ap (λ (l : List ℕ). checkedOf (decodeRefusal l)) low) (t .enum-told .given .1) in
-    let same = r .repair .ensures .1 ∙ ap repaired low in
-    let bytes-long = ap length same ∙ repaired-length _ ∙ lowBytes-length ws ∙ long in
+    let y = within-repair ws old (r .repair-marked .result) long (r .repair-marked .ensures .0 ∙ ap (λ (l : List ℕ). checkedOf (markedRefusal ws l)) low) (t .enum-told .given .1) in
+    let same = r .repair-marked .ensures .1 ∙ ap (markedLeaves ws) low ∙ marked-leaves ws _ long (lowBytes-length ws ∙ long) in
+    let bytes-long = ap length same ∙ repaired-length ws ∙ long in
     let A = all-right ws old long n y room in (
       c .count-fixed .ensures ∙ sym (counted-words ws _ long bytes-long) ∙ ap (λ (bs : List ℕ). Fixed (changes ws (soundWords bs))) same ∙ A .right,
       sound-filled _ _ _ (w .sound-words .ensures .1) (bytes-long ∙ sym room) ∙ ap soundWords same ∙ A .kept,

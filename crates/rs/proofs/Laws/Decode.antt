@@ -3,7 +3,7 @@
 -- Assumes nothing.
 use mathlib.Core.Path.{_≡_, refl, sym, ap, ap₂, _∙_, subst}
 use mathlib.Core.Bool.{Bool, true, false, cond, _&&_}
-use mathlib.Core.List.{List, [], _∷_, map, List·Memᴰ, List·Memᴰ·head, List·Memᴰ·tail, List·Memᴰ·not-nil, List·Memᴰ·cases-cons, List·Memᴰ·append-cases, List·Memᴰ·eq-of-singleton, Memᴰ·append-left, Memᴰ·append-right, Memᴰ·map, Memᴰ·of-map, Memᴰ·cast}
+use mathlib.Core.List.{List, [], _∷_, _++_, map, List·Memᴰ, List·Memᴰ·head, List·Memᴰ·tail, List·Memᴰ·not-nil, List·Memᴰ·cases-cons, List·Memᴰ·append-cases, List·Memᴰ·eq-of-singleton, Memᴰ·append-left, Memᴰ·append-right, Memᴰ·map, Memᴰ·of-map, Memᴰ·cast}
 use mathlib.Core.Logic.{_⊎_, inl, inr, ⊎-elim}
 use mathlib.Core.Option.{Option, none, some, Option·getD, Option·some-ne-none}
 use Prim.Native.Nat.{ℕ, zero, suc, _+_, _≤_, _<_}
@@ -23,7 +23,9 @@ use Rattle.rs.specs.Codeword.{Codeword}
 use Rattle.basics.specs.Below.{Bytes}
 use Rattle.basics.proofs.Laws.Below.{all-below, below-all}
 use Rattle.rs.specs.Decode.{changes, Within, isByte, isCodeword, fronted, near, firstCodeword, given, decode, repairable, repaired, decodeRefusal}
-use Rattle.rs.proofs.Laws.Distance.{place, differ-le, differ-same, changes-zero, changes-self, changes-le-length}
+use Rattle.rs.proofs.Laws.Distance.{differ, place, differ-le, differ-same, differ-zero, changes-zero, changes-self}
+use Rattle.rs.proofs.Laws.Errors.{errors-self, errors-none}
+use Rattle.rs.specs.Marked.{errors}
 use Rattle.rs.proofs.Laws.Codeword.{block-passes, codeword-unique}
 
 -- ---- the test
@@ -43,6 +45,10 @@ codeword-true w c =
 
 -- ---- the lists near a list
 
+no-entries : (m : List ℕ) → length m ≡ 0 → m ≡ []
+no-entries [] e = refl
+no-entries (x ∷ m) e = absurd (omega arith)
+
 fronted-mem : (n x : ℕ) (l : List ℕ) (ls : List (List ℕ)) → x < n → List·Memᴰ l ls → List·Memᴰ (x ∷ l) (fronted n ls)
 unfolding fronted
 fronted-mem zero x l ls h m = absurd (omega arith)
@@ -57,56 +63,90 @@ mem-fronted zero m ls h = absurd (List·Memᴰ·not-nil h)
 mem-fronted (suc n) m ls h =
     ⊎-elim (λ a. let (l, i, e) = Memᴰ·of-map (λ k. n ∷ k) ls a in (n, l, i, e)) (λ a. mem-fronted n m ls a) (List·Memᴰ·append-cases (map (λ k. n ∷ k) ls) h)
 
--- m has l's length and differs from it in at most k places
-pub record Close (k : ℕ) (l m : List ℕ) : Type 0 where
+-- m has l's length and differs from it in at most k places without a mark
+pub record Close (marks : List Bool) (k : ℕ) (l m : List ℕ) : Type 0 where
   pub long : length m ≡ length l
-  pub few : changes m l ≤ k
+  pub few : errors marks m l ≤ k
 
-close-self : (k : ℕ) (l : List ℕ) → Close k l l
-close-self k l = record { long = refl; few = omega (arith, changes-self l) }
+close-self : (marks : List Bool) (k : ℕ) (l m : List ℕ) → m ≡ l → Close marks k l m
+close-self marks k l m e = subst (Close marks k l) (sym e) (record { long = refl; few = omega (arith, errors-self marks l) })
 
-close-kept : {k : ℕ} (b : ℕ) {l m : List ℕ} → Close k l m → Close k (b ∷ l) (b ∷ m)
-unfolding changes
-close-kept b c = record { long = ap suc (c .long); few = omega (arith, differ-same b b refl) }
+-- a first place without a mark, in front of places with other marks
+module _ (all-marks marks : List Bool) (b : ℕ) (l : List ℕ) (plain : (x : ℕ) (m : List ℕ) → errors all-marks (x ∷ m) (b ∷ l) ≡ differ x b + errors marks m l) where
+  close-kept : (k : ℕ) (m : List ℕ) → List·Memᴰ m (map (λ n. b ∷ n) (near marks k l)) → ((n : List ℕ) → List·Memᴰ n (near marks k l) → Close marks k l n)
+      → Close all-marks k (b ∷ l) m
+  close-kept k m h f =
+      let (n, i, e) = Memᴰ·of-map (λ n. b ∷ n) (near marks k l) h in
+      let c = f n i in
+      subst (Close all-marks k (b ∷ l)) e (record { long = ap suc (c .long); few = omega (arith, plain b n, differ-same b b refl) })
 
-close-changed : {k : ℕ} (b x : ℕ) {l m : List ℕ} → Close k l m → Close (suc k) (b ∷ l) (x ∷ m)
-unfolding changes
-close-changed b x c = record { long = ap suc (c .long); few = omega (arith, differ-le x b) }
+  close-changed : (k : ℕ) (m : List ℕ) → List·Memᴰ m (fronted 256 (near marks k l)) → ((n : List ℕ) → List·Memᴰ n (near marks k l) → Close marks k l n)
+      → Close all-marks (suc k) (b ∷ l) m
+  close-changed k m h f =
+      let (x, n, i, e) = mem-fronted 256 m (near marks k l) h in
+      let c = f n i in
+      subst (Close all-marks (suc k) (b ∷ l)) e (record { long = ap suc (c .long); few = omega (arith, plain x n, differ-le x b) })
+
+  close-either : (k : ℕ) (m : List ℕ) → List·Memᴰ m (map (λ n. b ∷ n) (near marks (suc k) l) ++ fronted 256 (near marks k l))
+      → ((n : List ℕ) → List·Memᴰ n (near marks (suc k) l) → Close marks (suc k) l n) → ((n : List ℕ) → List·Memᴰ n (near marks k l) → Close marks k l n)
+      → Close all-marks (suc k) (b ∷ l) m
+  close-either k m h f g =
+      ⊎-elim (λ a. close-kept (suc k) m a f) (λ a. close-changed k m a g) (List·Memᴰ·append-cases (map (λ n. b ∷ n) (near marks (suc k) l)) h)
+
+-- a marked one
+close-free : (marks : List Bool) (k b : ℕ) (l m : List ℕ) → List·Memᴰ m (fronted 256 (near marks k l))
+    → ((n : List ℕ) → List·Memᴰ n (near marks k l) → Close marks k l n) → Close (true ∷ marks) k (b ∷ l) m
+unfolding errors
+close-free marks k b l m h f =
+    let (x, n, i, e) = mem-fronted 256 m (near marks k l) h in
+    let c = f n i in
+    subst (Close (true ∷ marks) k (b ∷ l)) e (record { long = ap suc (c .long); few = omega arith })
 
 -- each member of near is close
-pub near-close : (k : ℕ) (l m : List ℕ) → List·Memᴰ m (near k l) → Close k l m
-unfolding near
-near-close zero l m h = subst (Close 0 l) (sym (List·Memᴰ·eq-of-singleton h)) (close-self 0 l)
-near-close (suc k) [] m h = subst (Close (suc k) []) (sym (List·Memᴰ·eq-of-singleton h)) (close-self (suc k) [])
-near-close (suc k) (b ∷ l) m h =
-    ⊎-elim
-    (λ a. let (n, i, e) = Memᴰ·of-map (λ n. b ∷ n) (near (suc k) l) a in subst (Close (suc k) (b ∷ l)) e (close-kept b (near-close (suc k) l n i)))
-    (λ a. let (x, n, i, e) = mem-fronted 256 m (near k l) a in subst (Close (suc k) (b ∷ l)) e (close-changed b x (near-close k l n i)))
-    (List·Memᴰ·append-cases (map (λ n. b ∷ n) (near (suc k) l)) h)
+pub near-close : (marks : List Bool) (k : ℕ) (l m : List ℕ) → List·Memᴰ m (near marks k l) → Close marks k l m
+unfolding near errors
+near-close [] zero l m h = close-self [] 0 l m (List·Memᴰ·eq-of-singleton h)
+near-close [] (suc k) [] m h = close-self [] (suc k) [] m (List·Memᴰ·eq-of-singleton h)
+near-close [] (suc k) (b ∷ l) m h = close-either [] [] b l (λ x n. refl) k m h (near-close [] (suc k) l) (near-close [] k l)
+near-close (mark ∷ marks) k [] m h = close-self (mark ∷ marks) k [] m (List·Memᴰ·eq-of-singleton h)
+near-close (true ∷ marks) k (b ∷ l) m h = close-free marks k b l m h (near-close marks k l)
+near-close (false ∷ marks) zero (b ∷ l) m h = close-kept (false ∷ marks) marks b l (λ x n. refl) 0 m h (near-close marks zero l)
+near-close (false ∷ marks) (suc k) (b ∷ l) m h =
+    close-either (false ∷ marks) marks b l (λ x n. refl) k m h (near-close marks (suc k) l) (near-close marks k l)
 
-near-kept : (k b : ℕ) (l m : List ℕ) → List·Memᴰ m (near (suc k) l) → List·Memᴰ (b ∷ m) (near (suc k) (b ∷ l))
-unfolding near
-near-kept k b l m h = Memᴰ·append-left (fronted 256 (near k l)) (Memᴰ·map (λ n. b ∷ n) h)
+-- a first place without a mark: it is kept, or it is one of those that may be changed
+kept-mem : (ls : List (List ℕ)) (a x : ℕ) (m : List ℕ) → x ≡ a → List·Memᴰ m ls → List·Memᴰ (x ∷ m) (map (λ n. a ∷ n) ls)
+kept-mem ls a x m e h = Memᴰ·cast (ap (λ (z : ℕ). z ∷ m) e) (Memᴰ·map (λ n. a ∷ n) h)
 
-near-changed : (k b x : ℕ) (l m : List ℕ) → x < 256 → List·Memᴰ m (near k l) → List·Memᴰ (x ∷ m) (near (suc k) (b ∷ l))
-unfolding near
-near-changed k b x l m i h = Memᴰ·append-right (map (λ n. b ∷ n) (near (suc k) l)) (fronted-mem 256 x m (near k l) i h)
+either-mem : (k e a x : ℕ) (m : List ℕ) (same-left fewer-left : List (List ℕ)) → x < 256 → differ x a + e ≤ suc k
+    → (e ≤ suc k → List·Memᴰ m same-left) → (e ≤ k → List·Memᴰ m fewer-left) → List·Memᴰ (x ∷ m) (map (λ n. a ∷ n) same-left ++ fronted 256 fewer-left)
+either-mem k e a x m s f i h g q =
+    place (λ z. z + e ≤ suc k → List·Memᴰ (x ∷ m) (map (λ n. a ∷ n) s ++ fronted 256 f)) x a
+    (λ t h. Memᴰ·append-left (fronted 256 f) (kept-mem s a x m t (g (omega arith))))
+    (λ n h. Memᴰ·append-right (map (λ n. a ∷ n) s) (fronted-mem 256 x m f i (q (omega arith))))
+    h
 
 -- each list of bytes that is close is a member
-pub close-near : (k : ℕ) (l m : List ℕ) → Bytes m → Close k l m → List·Memᴰ m (near k l)
-unfolding near changes
-close-near zero l m b c = List·Memᴰ·head (changes-zero m l (c .long) (omega arith))
-close-near (suc k) [] m b c = List·Memᴰ·head (changes-zero m [] (c .long) (omega (arith, changes-le-length m [])))
-close-near (suc k) (a ∷ l) [] b c = absurd (omega arith)
-close-near (suc k) (a ∷ l) (x ∷ m) b c =
-    place (λ z. z + changes m l ≤ suc k → List·Memᴰ (x ∷ m) (near (suc k) (a ∷ l))) x a
-    (λ e h. Memᴰ·cast (ap (λ (z : ℕ). z ∷ m) e) (near-kept k a l m (close-near (suc k) l m (b .1) (record { long = suc-inj (c .long); few = omega arith }))))
-    (λ n h. near-changed k a x l m (b .0) (close-near k l m (b .1) (record { long = suc-inj (c .long); few = omega arith })))
-    (c .few)
+pub close-near : (marks : List Bool) (k : ℕ) (l m : List ℕ) → Bytes m → Close marks k l m → List·Memᴰ m (near marks k l)
+unfolding near errors
+close-near [] zero l m b c = List·Memᴰ·head (changes-zero m l (c .long) (omega (arith, errors-none m l)))
+close-near [] (suc k) [] m b c = List·Memᴰ·head (no-entries m (c .long))
+close-near [] (suc k) (a ∷ l) [] b c = absurd (omega arith)
+close-near [] (suc k) (a ∷ l) (x ∷ m) b c =
+    either-mem k (errors [] m l) a x m (near [] (suc k) l) (near [] k l) (b .0) (c .few)
+    (λ h. close-near [] (suc k) l m (b .1) (record { long = suc-inj (c .long); few = h })) (λ h. close-near [] k l m (b .1) (record { long = suc-inj (c .long); few = h }))
+close-near (mark ∷ marks) k [] m b c = List·Memᴰ·head (no-entries m (c .long))
+close-near (mark ∷ marks) k (a ∷ l) [] b c = absurd (omega arith)
+close-near (true ∷ marks) k (a ∷ l) (x ∷ m) b c = fronted-mem 256 x m (near marks k l) (b .0) (close-near marks k l m (b .1) (record { long = suc-inj (c .long); few = c .few }))
+close-near (false ∷ marks) zero (a ∷ l) (x ∷ m) b c =
+    kept-mem (near marks 0 l) a x m (differ-zero x a (omega arith)) (close-near marks zero l m (b .1) (record { long = suc-inj (c .long); few = omega arith }))
+close-near (false ∷ marks) (suc k) (a ∷ l) (x ∷ m) b c =
+    either-mem k (errors marks m l) a x m (near marks (suc k) l) (near marks k l) (b .0) (c .few)
+    (λ h. close-near marks (suc k) l m (b .1) (record { long = suc-inj (c .long); few = h })) (λ h. close-near marks k l m (b .1) (record { long = suc-inj (c .long); few = h }))
 
 -- ---- the first codeword
 
-first-is : (ws : List (List ℕ)) (c : List ℕ) → firstCodeword ws ≡ some c → Codeword c × List·Memᴰ c ws
+pub first-is : (ws : List (List ℕ)) (c : List ℕ) → firstCodeword ws ≡ some c → Codeword c × List·Memᴰ c ws
 unfolding firstCodeword
 first-is [] c e = absurd (let z : _≡_ {A = ℕ} 0 1 = cc in omega arith)
 first-is (w ∷ ws) c e = go (isCodeword w) (true-codeword w) e (first-is ws c)
@@ -116,7 +156,7 @@ first-is (w ∷ ws) c e = go (isCodeword w) (true-codeword w) e (first-is ws c)
     go true W q f = let p : c ≡ w = cc in (subst Codeword (sym p) (W refl), List·Memᴰ·head p)
     go false W q f = (f q .0, List·Memᴰ·tail (f q .1))
 
-first-found : (ws : List (List ℕ)) (c : List ℕ) → Codeword c → List·Memᴰ c ws → (w : List ℕ) × (firstCodeword ws ≡ some w)
+pub first-found : (ws : List (List ℕ)) (c : List ℕ) → Codeword c → List·Memᴰ c ws → (w : List ℕ) × (firstCodeword ws ≡ some w)
 unfolding firstCodeword
 first-found [] c C h = absurd (List·Memᴰ·not-nil h)
 first-found (w ∷ ws) c C h = go (isCodeword w) (λ e. codeword-true w (subst Codeword e C)) (first-found ws c C) (List·Memᴰ·cases-cons h)
@@ -132,14 +172,14 @@ first-found (w ∷ ws) c C h = go (isCodeword w) (λ e. codeword-true w (subst C
 pub decode-sound : (r c : List ℕ) → decode r ≡ some c → Within r c
 unfolding decode
 decode-sound r c e =
-    let (C, m) = first-is (near 3 r) c e in
-    let q = near-close 3 r c m in
-    record { word = C; long = q .long; near = q .few }
+    let (C, m) = first-is _ c e in
+    let q = near-close [] _ r c m in
+    record { word = C; long = q .long; near = omega (arith, q .few, errors-none c r) }
 
 pub decode-complete : (r c : List ℕ) → Codeword c → length c ≡ length r → changes c r ≤ 3 → decode r ≡ some c
 unfolding decode
 decode-complete r c C l h =
-    let (w, e) = first-found (near 3 r) c C (close-near 3 r c (C .bytes) (record { long = l; few = h })) in
+    let (w, e) = first-found (near [] 3 r) c C (close-near [] 3 r c (C .bytes) (record { long = l; few = omega (arith, errors-none c r) })) in
     let W = decode-sound r w e in
     e ∙ ap some (codeword-unique r w c (sym l ∙ C .long) (W .word) C (W .near) h)
 

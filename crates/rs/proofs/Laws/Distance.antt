@@ -89,13 +89,13 @@ differ-le a b = place (λ x. x ≤ 1) a b (λ e. omega arith) (λ n. omega arith
 pub differ-same : (a b : ℕ) → a ≡ b → differ a b ≡ 0
 differ-same a b e = place (λ x. x ≡ 0) a b (λ q. refl) (λ n. absurd (n e))
 
-differ-zero : (a b : ℕ) → differ a b ≡ 0 → a ≡ b
+pub differ-zero : (a b : ℕ) → differ a b ≡ 0 → a ≡ b
 differ-zero a b = place (λ x. x ≡ 0 → a ≡ b) a b (λ e z. e) (λ n z. absurd (omega arith))
 
 differ-sym : (a b : ℕ) → differ a b ≡ differ b a
 differ-sym a b = place (λ x. x ≡ differ b a) a b (λ e. sym (differ-same b a (sym e))) (λ n. place (λ x. 1 ≡ x) b a (λ e. absurd (n (sym e))) (λ m. refl))
 
-differ-via : (a b d : ℕ) → differ a b ≤ differ a d + differ b d
+pub differ-via : (a b d : ℕ) → differ a b ≤ differ a d + differ b d
 differ-via a b d =
     place (λ x. differ a b ≤ x + differ b d) a d
     (λ e. place (λ x. differ a b ≤ 0 + x) b d (λ f. omega (arith, differ-same a b (e ∙ sym f))) (λ n. omega (arith, differ-le a b)))

@@ -21,7 +21,7 @@ use Rattle.rs.proofs.Laws.Codeword.{block-passes, passes-block}
 use Rattle.rs.proofs.Laws.Decode.{Answer, short-answer}
 
 module _ (l : List ℕ) (d : Divided) (e : d ≡ dividedOf l) where
-  checked-is : d .checked ≡ checkedOf (blockRefusal l)
+  pub checked-is : d .checked ≡ checkedOf (blockRefusal l)
   unfolding dividedOf
   checked-is = ap (λ (x : Divided). x .checked) e
 

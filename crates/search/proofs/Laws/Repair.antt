@@ -1,17 +1,17 @@
 -- Why repair is exact: errors that have the sums of a block lead to the codeword within three places of it, and where no three
 -- errors have them there is no such codeword.
 -- Assumes nothing.
-use mathlib.Core.Path.{_≡_, refl, sym, ap, ap₂, _∙_, subst}
+use mathlib.Core.Path.{_≡_, refl, sym, ap, _∙_, subst}
 use mathlib.Core.Bool.{true, false, _&&_, and-true, and-assoc}
 use mathlib.Core.List.{List, [], _∷_}
 use Prim.Native.Nat.{ℕ, zero, suc, _-_, _<_, _≤_}
-use native.Mathlib.Nat.{suc-sub-suc, le-of-suc-le-suc, not-suc-le-zero, zero-lt-suc}
+use native.Mathlib.Nat.{zero-lt-suc}
 use native.Mathlib.Omega.{arith}
 use lib.Dec.{eqb}
-use lib.ListN.{length, getD, set, length-set}
+use lib.ListN.{length, getD, length-set}
 use Rattle.gf256.specs.Field.{_⊕_, _⊗_, pow}
 use Rattle.gf256.specs.PowerSum.{Term, powerSum}
-use Rattle.gf256.proofs.Laws.Sum.{⊕-assoc, ⊕-zero-l}
+use Rattle.gf256.proofs.Laws.Sum.{⊕-zero-l}
 use Rattle.gf256.proofs.Laws.Product.{pow-swap}
 use Rattle.gf256.proofs.Laws.Ring.{ring}
 use Rattle.rs.specs.Polynomial.{valueAt, _⊞_, zeros}
@@ -21,7 +21,7 @@ use Rattle.basics.specs.Each.{same}
 use Rattle.basics.proofs.Laws.Test.{never}
 use Rattle.basics.proofs.Laws.Each.{same-equal, same-self}
 use Rattle.rs.specs.Decode.{changes}
-use Rattle.rs.proofs.Laws.Polynomial.{⊞-bytes, length-⊞, value-⊞}
+use Rattle.rs.proofs.Laws.Polynomial.{⊞-bytes, length-⊞, value-⊞, value-set}
 use Rattle.basics.proofs.Laws.Parts.{all-entries}
 use Rattle.rs.proofs.Laws.Distance.{terms, length-terms, terms-sum, changes-weight, changes-zero, changes-self, changes-set}
 use Rattle.rs.proofs.Laws.Codeword.{codeword-vanishes, vanishing-codeword, left-value, zero-codeword, codeword-zero}
@@ -32,26 +32,9 @@ use Rattle.search.specs.declared.solver.Outcome.{Outcome}
 
 -- ---- patches
 
-head-ring : (d y p z : ℕ) → (d ⊕ y) ⊗ p ⊕ z ≡ d ⊗ p ⊕ z ⊕ y ⊗ p
-head-ring d y p z = simp ring
-
--- y comes in at i: the value at x changes by y times the power of x that belongs there
-value-set : (x : ℕ) (l : List ℕ) (i y : ℕ) → i < length l → valueAt x (set l i (getD l i 0 ⊕ y)) ≡ valueAt x l ⊕ y ⊗ pow x (length l - suc i)
-unfolding valueAt
-value-set x [] i y h = absurd (not-suc-le-zero h)
-value-set x (d ∷ l) zero y h =
-    let n : suc (length l) - 1 ≡ length l = omega arith in
-    head-ring d y (pow x (length l)) (valueAt x l) ∙ ap (λ (k : ℕ). d ⊗ pow x (length l) ⊕ valueAt x l ⊕ y ⊗ pow x k) (sym n)
-value-set x (d ∷ l) (suc i) y h =
-    ap₂ (λ (k z : ℕ). d ⊗ pow x k ⊕ z) (length-set l i _) (value-set x l i y (le-of-suc-le-suc h))
-    ∙ sym (⊕-assoc _ _ _)
-    ∙ ap (λ (k : ℕ). d ⊗ pow x (length l) ⊕ valueAt x l ⊕ y ⊗ pow x k) (sym (suc-sub-suc (length l) (suc i)))
-
-patched-value : (l : List ℕ) (k y j : ℕ) → length l ≡ 254 → k < 254 → valueAt (pow 2 j) (patched l k y) ≡ valueAt (pow 2 j) l ⊕ y ⊗ pow (pow 2 k) j
+pub patched-value : (l : List ℕ) (k y j : ℕ) → length l ≡ 254 → k < 254 → valueAt (pow 2 j) (patched l k y) ≡ valueAt (pow 2 j) l ⊕ y ⊗ pow (pow 2 k) j
 patched-value l k y j n h =
-    let e : length l - suc (253 - k) ≡ k = omega arith in
-    value-set (pow 2 j) l (253 - k) y (omega arith) ∙ ap (λ (i : ℕ). valueAt (pow 2 j) l ⊕ y ⊗ pow (pow 2 j) i) e
-    ∙ ap (λ (p : ℕ). valueAt (pow 2 j) l ⊕ y ⊗ p) (pow-swap 2 j k)
+    value-set (pow 2 j) l (253 - k) k y (omega arith) ∙ ap (λ (p : ℕ). valueAt (pow 2 j) l ⊕ y ⊗ p) (pow-swap 2 j k)
 
 -- ---- small parts
 
@@ -105,7 +88,7 @@ module _ (block rest s : List ℕ) (hb : Bytes block) (D : Damaged block rest) (
   rest-value j h = ap (valueAt (pow 2 j)) (D .divided) ∙ left-value block (D .long) hb j h
 
   -- the sums are the values of the block
-  sum-value : (j : ℕ) → j < 6 → getD s j 0 ≡ valueAt (pow 2 j) block
+  pub sum-value : (j : ℕ) → j < 6 → getD s j 0 ≡ valueAt (pow 2 j) block
   sum-value j h = ap (λ (l : List ℕ). getD l j 0) es ∙ sums-at rest j h ∙ rest-value j h
 
   -- ---- errors that have the sums lead to the codeword

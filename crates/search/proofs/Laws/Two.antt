@@ -75,10 +75,10 @@ module _ (n k y m z : ℕ) (s : List ℕ) (hk : k < 254) (hm : m < k) (py : 0 < 
   places-apart : 0 < X ⊕ Z
   places-apart = apart k m (omega arith) (omega arith) (λ e. omega arith)
 
-  abbrev D : ℕ
+  abbrev pub D : ℕ
   D = getD s 0 0 ⊗ getD s 2 0 ⊕ getD s 1 0 ⊗ getD s 1 0
 
-  D-pos : 0 < D
+  pub D-pos : 0 < D
   D-pos =
       rw (sum-at 0 (omega arith), sum-at 1 (omega arith), sum-at 2 (omega arith), det-ring y z X Z)
       (⊗-pos _ _ (⊗-pos y z py hy pz hz) (⊗-lt y z) (⊗-pos _ _ places-apart sum-byte places-apart sum-byte) (⊗-lt _ _))

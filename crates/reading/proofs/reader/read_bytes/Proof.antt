@@ -14,7 +14,7 @@ use Rattle.refusal.specs.Checked.{checkedOf}
 use Rattle.refusal.specs.Number.{refusalPlain}
 use Rattle.refusal.specs.declared.Reason.the-variants.{Fill}
 use Rattle.refusal.proofs.Laws.Chain.{chained-from, chained-more, chained-all}
-use Rattle.rs.specs.Decode.{repaired, decodeRefusal}
+use Rattle.search.specs.Marked.{markedRefusal, markedLeaves}
 use Rattle.reading.specs.Reading.{isFill, dataWords}
 use Rattle.reading.proofs.Laws.Reader.{repair-decides, guarded-off, bytes-on, bytes-off, last-six}
 use Rattle.reading.proofs.reader.read_bytes.Statement.{statement}
@@ -28,8 +28,8 @@ returns c =
     let s = b .before .before .before .before in
     let ws : List ℕ = s .args .words .now in
     let low = low-filled _ ws _ (b .low-bytes .ensures .1) (s .pre .0 ∙ sym (s .pre .1)) in (
-      r .repair .ensures .0 ∙ ap checkedOf (ap decodeRefusal low ∙ repair-decides _ ws (t .if1 .taken) (s .pre .0)),
-      r .repair .ensures .1 ∙ ap repaired low ∙ bytes-on _ ws (t .if1 .taken),
+      r .repair-marked .ensures .0 ∙ ap checkedOf (ap (markedRefusal ws) low ∙ repair-decides _ ws (t .if1 .taken) (s .pre .0)),
+      r .repair-marked .ensures .1 ∙ ap (markedLeaves ws) low ∙ bytes-on _ ws (t .if1 .taken) (s .pre .0),
     )
 
 returns-2 : tie.Need-returns-2
