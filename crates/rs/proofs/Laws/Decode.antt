@@ -238,12 +238,3 @@ refused-keeps l why r = go (decode l) refl
         let W = decode-sound l c e in
         let y : repairable l ≡ true = sym (some-answer l c e .said) in
         absurd (Option·some-ne-none why (sym r ∙ decode-decides l (sym (W .long) ∙ W .word .long) ∙ ap (λ (b : Bool). require b (refusalPlain BeyondRepair) passed) y))
-
--- what repair gives where it says yes is a codeword
-pub repaired-codeword : (l : List ℕ) → repairable l ≡ true → Codeword (repaired l)
-unfolding repairable repaired
-repaired-codeword l = go (decode l) refl
-  where
-    go : (o : Option (List ℕ)) → decode l ≡ o → given o ≡ true → Codeword (Option·getD o l)
-    go none e y = never (sym y)
-    go (some c) e y = decode-sound l c e .word

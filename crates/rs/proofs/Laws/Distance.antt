@@ -92,9 +92,6 @@ differ-same a b e = place (λ x. x ≡ 0) a b (λ q. refl) (λ n. absurd (n e))
 pub differ-zero : (a b : ℕ) → differ a b ≡ 0 → a ≡ b
 differ-zero a b = place (λ x. x ≡ 0 → a ≡ b) a b (λ e z. e) (λ n z. absurd (omega arith))
 
-differ-sym : (a b : ℕ) → differ a b ≡ differ b a
-differ-sym a b = place (λ x. x ≡ differ b a) a b (λ e. sym (differ-same b a (sym e))) (λ n. place (λ x. 1 ≡ x) b a (λ e. absurd (n (sym e))) (λ m. refl))
-
 pub differ-via : (a b d : ℕ) → differ a b ≤ differ a d + differ b d
 differ-via a b d =
     place (λ x. differ a b ≤ x + differ b d) a d
@@ -112,13 +109,6 @@ changes-zero [] [] e z = refl
 changes-zero [] (b ∷ m) e z = absurd (omega arith)
 changes-zero (a ∷ l) [] e z = absurd (omega arith)
 changes-zero (a ∷ l) (b ∷ m) e z = ap₂ (λ (x : ℕ) (y : List ℕ). x ∷ y) (differ-zero a b (omega arith)) (changes-zero l m (suc-inj e) (omega arith))
-
-pub changes-sym : (l m : List ℕ) → changes l m ≡ changes m l
-unfolding changes
-changes-sym [] [] = refl
-changes-sym [] (b ∷ m) = refl
-changes-sym (a ∷ l) [] = refl
-changes-sym (a ∷ l) (b ∷ m) = ap₂ _+_ (differ-sym a b) (changes-sym l m)
 
 -- the way by r
 pub changes-via : (c w r : List ℕ) → length c ≡ length r → length w ≡ length r → changes c w ≤ changes c r + changes w r

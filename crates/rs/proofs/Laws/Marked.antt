@@ -44,7 +44,7 @@ marked-complete marks r c W =
     found ∙ ap some (marked-unique marks r w c (marked-sound marks r w found) W)
 
 -- none where there is no such codeword
-pub marked-none : (marks : List Bool) (r : List ℕ) → ((c : List ℕ) → WithinMarked marks r c → ⊥) → decodeMarked marks r ≡ none
+marked-none : (marks : List Bool) (r : List ℕ) → ((c : List ℕ) → WithinMarked marks r c → ⊥) → decodeMarked marks r ≡ none
 marked-none marks r n = go (decodeMarked marks r) refl
   where
     go : (o : Option (List ℕ)) → decodeMarked marks r ≡ o → decodeMarked marks r ≡ none

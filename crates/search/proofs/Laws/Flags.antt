@@ -43,7 +43,7 @@ unfolding confessed
 confessed-length [] = refl
 confessed-length (w ∷ words) = ap suc (confessed-length words)
 
-pub marks-length : (flags : List ℕ) → length (marksBy flags) ≡ length flags
+marks-length : (flags : List ℕ) → length (marksBy flags) ≡ length flags
 unfolding marksBy
 marks-length [] = refl
 marks-length (f ∷ flags) = ap suc (marks-length flags)

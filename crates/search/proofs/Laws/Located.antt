@@ -78,7 +78,7 @@ killed-leaves (p ∷ ps) (y ∷ v) ks ys s n ev ey z a h E =
 -- ---- what is left tells how many there are
 
 -- the determinant of the first three sums
-abbrev pub det : List ℕ → ℕ
+abbrev det : List ℕ → ℕ
 det l = getD l 0 0 ⊗ getD l 2 0 ⊕ getD l 1 0 ⊗ getD l 1 0
 
 none-ring : 0 ⊗ 0 ⊕ 0 ⊗ 0 ≡ 0
@@ -159,10 +159,10 @@ module _ (n : ℕ) (left : List ℕ) where
 -- ---- the three answers
 
 -- are there two errors, by how many places are marked and by the determinant? is there one, by the first sum?
-abbrev pub isTwo : ℕ → List ℕ → Bool
+abbrev isTwo : ℕ → List ℕ → Bool
 isTwo f left = leb f 2 && not (eqb (det left) 0)
 
-abbrev pub isOne : ℕ → List ℕ → Bool
+abbrev isOne : ℕ → List ℕ → Bool
 isOne f left = leb f 4 && not (eqb (getD left 0 0) 0)
 
 passes : (f b x : ℕ) → f ≤ b → 0 < x → (leb f b && not (eqb x 0)) ≡ true

@@ -44,7 +44,7 @@ patched-all-value (k ∷ ks) (y ∷ v) l j n b e =
 
 -- ---- one run of places after another
 
-pub patched-append : (a b u v l : List ℕ) → length u ≡ length a → patchedAll (a ++ b) (u ++ v) l ≡ patchedAll b v (patchedAll a u l)
+patched-append : (a b u v l : List ℕ) → length u ≡ length a → patchedAll (a ++ b) (u ++ v) l ≡ patchedAll b v (patchedAll a u l)
 unfolding patchedAll
 patched-append [] b [] v l e = refl
 patched-append [] b (y ∷ u) v l e = absurd (omega arith)
@@ -57,7 +57,7 @@ set-same [] i v e = refl
 set-same (x ∷ l) zero v e = ap (λ (z : ℕ). z ∷ l) e
 set-same (x ∷ l) (suc i) v e = ap (λ (m : List ℕ). x ∷ m) (set-same l i v e)
 
-pub patched-zeros : (ks v l : List ℕ) → ((i : ℕ) → getD v i 0 ≡ 0) → patchedAll ks v l ≡ l
+patched-zeros : (ks v l : List ℕ) → ((i : ℕ) → getD v i 0 ≡ 0) → patchedAll ks v l ≡ l
 unfolding patchedAll
 patched-zeros [] v l z = refl
 patched-zeros (k ∷ ks) [] l z = refl

@@ -48,20 +48,20 @@ otherValues (false ∷ marks) (suc b ∷ l) = suc b ∷ otherValues marks l
 
 -- ---- how many they are
 
-pub places-length : (marks : List Bool) → length (placesOf marks) ≡ marksIn marks
+places-length : (marks : List Bool) → length (placesOf marks) ≡ marksIn marks
 unfolding placesOf marksIn
 places-length [] = refl
 places-length (true ∷ marks) = omega (arith, places-length marks)
 places-length (false ∷ marks) = omega (arith, places-length marks)
 
-pub values-length : (marks : List Bool) (l : List ℕ) → length marks ≡ length l → length (valuesIn marks l) ≡ length (placesOf marks)
+values-length : (marks : List Bool) (l : List ℕ) → length marks ≡ length l → length (valuesIn marks l) ≡ length (placesOf marks)
 unfolding placesOf
 values-length [] l e = refl
 values-length (mark ∷ marks) [] e = absurd (omega arith)
 values-length (true ∷ marks) (b ∷ l) e = ap suc (values-length marks l (suc-inj e))
 values-length (false ∷ marks) (b ∷ l) e = values-length marks l (suc-inj e)
 
-pub others-length : (marks : List Bool) (l : List ℕ) → length (otherValues marks l) ≡ length (otherPlaces marks l)
+others-length : (marks : List Bool) (l : List ℕ) → length (otherValues marks l) ≡ length (otherPlaces marks l)
 others-length [] l = refl
 others-length (mark ∷ marks) [] = refl
 others-length (true ∷ marks) (b ∷ l) = others-length marks l
@@ -78,7 +78,7 @@ other-none marks zero l e = refl
 other-none marks (suc x) l e = absurd (omega arith)
 
 -- as many as the errors
-pub others-errors : (marks : List Bool) (c r : List ℕ) → length marks ≡ length c → length c ≡ length r → length (otherPlaces marks (c ⊞ r)) ≡ errors marks c r
+others-errors : (marks : List Bool) (c r : List ℕ) → length marks ≡ length c → length c ≡ length r → length (otherPlaces marks (c ⊞ r)) ≡ errors marks c r
 unfolding errors _⊞_
 others-errors [] [] r em e = refl
 others-errors [] (a ∷ c) r em e = absurd (omega arith)
@@ -92,14 +92,14 @@ others-errors (false ∷ marks) (a ∷ c) (b ∷ r) em e =
 
 -- ---- their order, and that they are bytes
 
-pub others-falling : (n : ℕ) (marks : List Bool) (l : List ℕ) → length l ≤ n → Descending n (otherPlaces marks l)
+others-falling : (n : ℕ) (marks : List Bool) (l : List ℕ) → length l ≤ n → Descending n (otherPlaces marks l)
 others-falling n [] l h = tt
 others-falling n (mark ∷ marks) [] h = tt
 others-falling n (true ∷ marks) (b ∷ l) h = others-falling n marks l (omega arith)
 others-falling n (false ∷ marks) (zero ∷ l) h = others-falling n marks l (omega arith)
 others-falling n (false ∷ marks) (suc b ∷ l) h = (omega arith, others-falling (length l) marks l (omega arith))
 
-pub others-no-zero : (marks : List Bool) (l : List ℕ) → Bytes l → NoZero (otherValues marks l)
+others-no-zero : (marks : List Bool) (l : List ℕ) → Bytes l → NoZero (otherValues marks l)
 others-no-zero [] l b = tt
 others-no-zero (mark ∷ marks) [] b = tt
 others-no-zero (true ∷ marks) (x ∷ l) b = others-no-zero marks l (b .1)
@@ -108,13 +108,13 @@ others-no-zero (false ∷ marks) (suc x ∷ l) b = (zero-lt-suc x, b .0, others-
 
 -- ---- the terms of both parts
 
-pub terms-append : (a b u v : List ℕ) → length u ≡ length a → termsAt (a ++ b) (u ++ v) ≡ termsAt a u ++ termsAt b v
+terms-append : (a b u v : List ℕ) → length u ≡ length a → termsAt (a ++ b) (u ++ v) ≡ termsAt a u ++ termsAt b v
 terms-append [] b [] v e = refl
 terms-append [] b (y ∷ u) v e = absurd (omega arith)
 terms-append (k ∷ a) b [] v e = absurd (omega arith)
 terms-append (k ∷ a) b (y ∷ u) v e = ap (λ (es : List Term). term k y ∷ es) (terms-append a b u v (suc-inj e))
 
-pub sum-append : (es fs : List Term) (j : ℕ) → powerSum (es ++ fs) j ≡ powerSum es j ⊕ powerSum fs j
+sum-append : (es fs : List Term) (j : ℕ) → powerSum (es ++ fs) j ≡ powerSum es j ⊕ powerSum fs j
 unfolding powerSum
 sum-append [] fs j = sym (⊕-zero-l _)
 sum-append (e ∷ es) fs j = ap (_⊕_ (e .Y ⊗ pow (e .X) j)) (sum-append es fs j) ∙ regroup _ _ _
@@ -123,10 +123,10 @@ sum-append (e ∷ es) fs j = ap (_⊕_ (e .Y ⊗ pow (e .X) j)) (sum-append es f
     regroup a b c = simp ring
 
 -- the terms at the marked places, and those at the others
-abbrev pub marked-terms : List Bool → List ℕ → List Term
+abbrev marked-terms : List Bool → List ℕ → List Term
 marked-terms marks l = termsAt (placesOf marks) (valuesIn marks l)
 
-abbrev pub other-terms : List Bool → List ℕ → List Term
+abbrev other-terms : List Bool → List ℕ → List Term
 other-terms marks l = termsAt (otherPlaces marks l) (otherValues marks l)
 
 module _ (j : ℕ) where
@@ -137,7 +137,7 @@ module _ (j : ℕ) where
   second-ring t a b = simp ring
 
   -- together they have the values of the list
-  pub split-sum : (marks : List Bool) (l : List ℕ) → length marks ≡ length l
+  split-sum : (marks : List Bool) (l : List ℕ) → length marks ≡ length l
       → powerSum (marked-terms marks l) j ⊕ powerSum (other-terms marks l) j ≡ valueAt (pow 2 j) l
   unfolding powerSum valueAt placesOf
   split-sum [] [] e = ⊕-self 0
@@ -185,7 +185,7 @@ apart-insert : (es fs : List Term) (t : Term) → Without (t .X) es → Without 
 apart-insert [] fs t a b h = (b, h)
 apart-insert (e ∷ es) fs t a b h = (without-insert (e .X) es fs t (λ q. a .0 (sym q)) (h .0), apart-insert es fs t (a .1) b (h .1))
 
-pub split-apart : (marks : List Bool) (l : List ℕ) → length marks ≡ length l → length l ≤ 255 → Apart (marked-terms marks l ++ other-terms marks l)
+split-apart : (marks : List Bool) (l : List ℕ) → length marks ≡ length l → length l ≤ 255 → Apart (marked-terms marks l ++ other-terms marks l)
 unfolding placesOf
 split-apart [] l e h = tt
 split-apart (mark ∷ marks) [] e h = absurd (omega arith)
