@@ -31,15 +31,15 @@ placesOf [] = []
 placesOf (true ∷ marks) = length marks ∷ placesOf marks
 placesOf (false ∷ marks) = placesOf marks
 
+-- the places that are in hand
+abbrev pub placesIn : Marks → List ℕ
+placesIn m = take (m .count) (m .places)
+
 -- so many marks, and the places of at most six
 pub record MarksOf (marks : List Bool) (m : Marks) : Type 0 where
   pub count : m .count ≡ marksIn marks
   pub placed : AllPlaced (m .places)
-  pub at : m .count ≤ 6 → take (m .count) (m .places) ≡ placesOf marks
-
--- the places that are in hand
-abbrev pub placesIn : Marks → List ℕ
-placesIn m = take (m .count) (m .places)
+  pub at : m .count ≤ 6 → placesIn m ≡ placesOf marks
 
 -- the same places and k
 pub record OneMore (m : Marks) (k : ℕ) (r : Marks) : Type 0 where

@@ -100,7 +100,7 @@ pub record Turning (t : List ℕ) (k : ℕ) (w : List ℕ) : Type 0 where
   pub second : (i : ℕ) → i < k → getD w (i + 255) 0 ≡ getD t i 0
   pub past : (i : ℕ) → 510 ≤ i → getD w i 0 ≡ 0
 
-zeros-at : (n i : ℕ) → getD {A = ℕ} (replicate n 0) i 0 ≡ 0
+pub zeros-at : (n i : ℕ) → getD {A = ℕ} (replicate n 0) i 0 ≡ 0
 zeros-at zero i = refl
 zeros-at (suc n) zero = refl
 zeros-at (suc n) (suc i) = zeros-at n i

@@ -7,25 +7,23 @@ use mathlib.Core.List.{List, _++_}
 use mathlib.Core.Option.{Option, none, some, Option·getD}
 use Prim.Native.Nat.{ℕ, _≤_, _<_}
 use native.Mathlib.Omega.{arith}
-use lib.ListN.{length, getD, take}
+use lib.ListN.{length, take}
 use Rattle.gf256.specs.Field.{_⊕_, pow}
 use Rattle.gf256.specs.PowerSum.{powerSum}
-use Rattle.gf256.proofs.Laws.Sum.{⊕-self, ⊕-zero-l}
+use Rattle.gf256.proofs.Laws.Sum.{⊕-self}
 use Rattle.basics.specs.Below.{Bytes}
 use Rattle.basics.proofs.Laws.Below.{at-below}
 use Rattle.rs.specs.Polynomial.{valueAt, _⊞_}
-use Rattle.rs.specs.Codeword.{Codeword}
 use Rattle.rs.specs.Decode.{given, decode, repairable, repaired}
 use Rattle.rs.specs.Marked.{marksIn, errors, decodeMarked, decodeBoth, repairableMarked, repairedMarked}
-use Rattle.rs.proofs.Laws.Polynomial.{value-⊞}
-use Rattle.rs.proofs.Laws.Codeword.{codeword-vanishes, vanishing-codeword}
+use Rattle.rs.proofs.Laws.Codeword.{vanishing-codeword}
 use Rattle.rs.proofs.Laws.Marked.{marked-sound, marked-complete, both-complete, both-second}
 use Rattle.search.specs.Search.{sumsOf, Damaged}
 use Rattle.search.specs.Values.{termsAt}
 use Rattle.search.specs.SearchMarked.{MarksOf, Fits, SolvedMarked, patchedAll}
 use Rattle.search.specs.declared.marked.Marks.{Marks}
 use Rattle.search.specs.declared.marked.Found.{Found}
-use Rattle.search.proofs.Laws.Repair.{sum-value}
+use Rattle.search.proofs.Laws.Repair.{sum-value, lack-value}
 use Rattle.search.proofs.Laws.Split.{valuesIn, otherPlaces, otherValues, lack-fits}
 use Rattle.search.proofs.Laws.Patched.{patched-all-length, patched-all-value, few-errors}
 
@@ -58,12 +56,6 @@ module _ (block rest s : List ℕ) (hb : Bytes block) (D : Damaged block rest) (
             );
       })
 
-  -- what the block lacks to a codeword has its sums
-  lacks : (c : List ℕ) → Codeword c → length c ≡ length block → (j : ℕ) → j < 6 → getD s j 0 ≡ valueAt (pow 2 j) (c ⊞ block)
-  lacks c C n j h =
-      sum-value block rest s hb D es j h ∙ sym (ap (λ (v : ℕ). v ⊕ valueAt (pow 2 j) block) (codeword-vanishes c C j h) ∙ ⊕-zero-l _)
-      ∙ sym (value-⊞ (pow 2 j) c block n)
-
   -- where nothing was, there is none
   pub lost-marked : o .found ≡ false → decodeMarked marks block ≡ none
   lost-marked q = go (decodeMarked marks block) refl
@@ -75,7 +67,7 @@ module _ (block rest s : List ℕ) (hb : Bytes block) (D : Damaged block rest) (
           let d : List ℕ = c ⊞ block in
           absurd (S .complete q (valuesIn marks d) (otherPlaces marks d) (otherValues marks d)
           (subst (λ (ps : List ℕ). Fits ps s (valuesIn marks d) (otherPlaces marks d) (otherValues marks d)) (sym (M .at few))
-          (lack-fits marks c block s em (W .word .long) (D .long) (W .word .bytes) hb (lacks c (W .word) (W .long)) (W .near))))
+          (lack-fits marks c block s em (W .word .long) (D .long) (W .word .bytes) hb (lack-value block rest s hb D es c (W .word) (W .long)) (W .near))))
 
 -- ---- both rules
 

@@ -9,7 +9,7 @@ use native.Mathlib.Nat.{suc-inj, le-of-suc-le-suc}
 use native.Mathlib.Numerals.{add-one}
 use native.Mathlib.Omega.{arith}
 use lib.ListN.{length, getD, set, take, drop, length-set, length-append, take-append-drop}
-use lib.Seq.{length-take-le, take-all, getD-drop}
+use lib.Seq.{length-take-le, take-all, set-getD, getD-drop}
 use Rattle.gf256.specs.Field.{_⊕_, pow}
 use Rattle.gf256.specs.PowerSum.{powerSum}
 use Rattle.gf256.proofs.Laws.Sum.{⊕-zero-r, ⊕-assoc}
@@ -52,18 +52,13 @@ patched-append (k ∷ a) b [] v l e = absurd (omega arith)
 patched-append (k ∷ a) b (y ∷ u) v l e = patched-append a b u v (patched l k y) (suc-inj e)
 
 -- values of 0 change nothing
-set-same : (l : List ℕ) (i v : ℕ) → v ≡ getD l i 0 → set l i v ≡ l
-set-same [] i v e = refl
-set-same (x ∷ l) zero v e = ap (λ (z : ℕ). z ∷ l) e
-set-same (x ∷ l) (suc i) v e = ap (λ (m : List ℕ). x ∷ m) (set-same l i v e)
-
 patched-zeros : (ks v l : List ℕ) → ((i : ℕ) → getD v i 0 ≡ 0) → patchedAll ks v l ≡ l
 unfolding patchedAll
 patched-zeros [] v l z = refl
 patched-zeros (k ∷ ks) [] l z = refl
 patched-zeros (k ∷ ks) (y ∷ v) l z =
     patched-zeros ks v (patched l k y) (λ i. z (suc i))
-    ∙ set-same l _ _ (ap (_⊕_ (getD l (253 - k) 0)) (z 0) ∙ ⊕-zero-r _)
+    ∙ ap (set l (253 - k)) (ap (_⊕_ (getD l (253 - k) 0)) (z 0) ∙ ⊕-zero-r _) ∙ set-getD l (253 - k) 0
 
 -- ---- the places without a mark
 

@@ -136,6 +136,11 @@ module _ (block rest s : List ℕ) (hb : Bytes block) (D : Damaged block rest) (
           changes-self block,
         )))
 
+  -- what the block lacks to a codeword has them too
+  pub lack-value : (c : List ℕ) → Codeword c → length c ≡ length block → (j : ℕ) → j < 6 → getD s j 0 ≡ valueAt (pow 2 j) (c ⊞ block)
+  lack-value c C n j h =
+      sum-value j h ∙ sym (ap (λ (v : ℕ). v ⊕ valueAt (pow 2 j) block) (codeword-vanishes c C j h) ∙ ⊕-zero-l _) ∙ sym (value-⊞ (pow 2 j) c block n)
+
   -- ---- where none have them, there is no codeword near
 
   pub lost-answer : (o : Outcome) → Solved s o → o .found ≡ false → Answer block false block
@@ -147,9 +152,4 @@ module _ (block rest s : List ℕ) (hb : Bytes block) (D : Damaged block rest) (
       apart c C n h (d ∷ ts) t =
           S .complete q d ts (omega (arith, ap length t, length-terms (c ⊞ block), changes-weight c block n))
           (subst (Falling 254) t (falling 254 (c ⊞ block) (omega (arith, length-⊞ c block n, D .long)) (⊞-bytes c block (C .bytes) hb)))
-          (record {
-            at = λ j i.
-                sum-value j i
-                ∙ sym (ap (λ (v : ℕ). v ⊕ valueAt (pow 2 j) block) (codeword-vanishes c C j i) ∙ ⊕-zero-l _)
-                ∙ sym (value-⊞ (pow 2 j) c block n) ∙ sym (terms-sum (c ⊞ block) j) ∙ ap (λ (l : List Term). powerSum l j) t;
-          })
+          (record { at = λ j i. lack-value c C n j i ∙ sym (terms-sum (c ⊞ block) j) ∙ ap (λ (l : List Term). powerSum l j) t })

@@ -14,6 +14,7 @@ use Rattle.gf256.specs.PowerSum.{Term, powerSum, Without, Apart, ByteTerms, kil
 use Rattle.gf256.proofs.Laws.Sum.{⊕-self, ⊕-zero-l, ⊕-zero-r, ⊕-lt, ⊕-pos}
 use Rattle.gf256.proofs.Laws.Product.{⊗-zero-l, ⊗-one-r, ⊗-lt, pow-lt, over-unique, over-zero-l}
 use Rattle.gf256.proofs.Laws.PowerSum.{kill-sum}
+use Rattle.gf256.proofs.Laws.Lent.{zeros-at}
 use Rattle.gf256.proofs.Laws.Ring.{ring}
 use Rattle.basics.proofs.Laws.Below.{at-below}
 use Rattle.basics.proofs.Laws.Parts.{same-cons, all-entries}
@@ -266,18 +267,13 @@ none-left zero v = refl
 none-left (suc n) [] = refl
 none-left (suc n) (y ∷ v) = none-left n v
 
-zero-entry : (n j : ℕ) → getD {A = ℕ} (replicate n 0) j 0 ≡ 0
-zero-entry zero j = refl
-zero-entry (suc n) zero = refl
-zero-entry (suc n) (suc j) = zero-entry n j
-
 -- none yet: all are 0
 pub valued-none : (n : ℕ) (s places : List ℕ) → length places ≡ 6 → Valued n s places (replicate 6 0) n
 unfolding valuesOf
 valued-none n s places l = record {
   long = sym l;
-  before = λ j h. zero-entry 6 j;
-  behind = λ j h. zero-entry 6 j;
+  before = λ j h. zeros-at 6 j;
+  behind = λ j h. zeros-at 6 j;
   right = none-left n (replicate 6 0) ∙ sym (ap (λ (ks : List ℕ). valuesOf ks (killedBy (take n places) s)) (none-left n places));
 }
 
