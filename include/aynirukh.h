@@ -10,7 +10,7 @@
  * comes back.
  *
  * number is 0 where the call is done, else the refusal's number, and place says where (the first byte of the item for 11 to 14, the data byte
- * whose word it is for 7, else 0). Beside 7 stand the wrong bits of that word. A refused call leaves its buffers as they were. The desk that it
+ * whose word it is for 7, the reserved byte for 15, else 0). Beside 7 stand the wrong bits of that word. A refused call leaves its buffers as they were. The desk that it
  * hands back is the one that was handed in, and the follower has one more refusal counted and is otherwise the one that was handed in; what
  * else stands beside number, place and bits is 0.
  *
@@ -29,11 +29,12 @@
  *    12   item 2, time                breaks its rule
  *    13   item 3 or 4, picture mode   breaks its rule
  *    14   item 6 or 7, sound mode     breaks its rule
+ *    15   a byte of the reserved area, 44 to 107, is not zero; the place is that of the first one; tested after 10 and before 11
  *    20   no such item
  *    21   another number of bytes or words than the call takes
  *    22   no step left to undo
  *    23   the room lent for the answer has not the exact size
- *    24   the desk's record breaks an item's rule
+ *    24   the desk's record breaks an item's rule, or its reserved area is not zero
  *    25   a field of other than 328 bytes
  *    26   a field's first six bits are not zero, its line is not 1 to 1,125, or its offset is over 2,199
  *    27   an index CI over 15
@@ -73,6 +74,7 @@ enum {
     AY_TIME = 12,
     AY_PICTURE = 13,
     AY_SOUND = 14,
+    AY_RESERVED_AREA = 15,
     AY_ITEM = 20,
     AY_SIZE = 21,
     AY_NOTHING_TO_UNDO = 22,
@@ -197,13 +199,13 @@ uint16_t ay_checksum(const uint16_t *words, size_t words_len);
 
 /* ---- packet and record */
 
-/* Writes the 262 words of the bytes' record, with CI 0 to 15 and with or without correction. Refuses 21, 27, 11 to 14, 23. */
+/* Writes the 262 words of the bytes' record, with CI 0 to 15 and with or without correction. Refuses 21, 27, 15, 11 to 14, 23. */
 AyAnswer ay_write_packet(bool correction, uint8_t ci, const uint8_t *bytes, size_t bytes_len, uint16_t *out, size_t out_len);
 
-/* Reads 262 words: correction bit, CI and fixed words. Refuses 1 to 14. */
+/* Reads 262 words: correction bit, CI and fixed words. Refuses 1 to 10, 15, 11 to 14. */
 AyPacket ay_read_packet(const uint16_t *words, size_t words_len);
 
-/* Reads 262 words, and leaves their record of 248 bytes in out. Refuses 1 to 14, 23. */
+/* Reads 262 words, and leaves their record of 248 bytes in out. Refuses 1 to 10, 15, 11 to 14, 23. */
 AyPacket ay_read_packet_into(const uint16_t *words, size_t words_len, uint8_t *out, size_t out_len);
 
 /* Leaves in out the 254 sound words of the codeword that the protected words are read as. Say that f of them are not sound, and that of the others e carry
@@ -215,7 +217,7 @@ AyRepaired ay_repair(const uint16_t *words, size_t words_len, uint16_t *out, siz
  * to six bytes changed in any way a codeword is none; with seven it may be another. Refuses 21. */
 AyVerdict ay_check_codeword(const uint8_t *block, size_t block_len);
 
-/* Says what 248 bytes are refused for as a record. Refuses 21, 11 to 14. */
+/* Says what 248 bytes are refused for as a record. Refuses 21, 15, 11 to 14. */
 AyAnswer ay_record_refusal(const uint8_t *bytes, size_t bytes_len);
 
 /* ---- field */
@@ -245,7 +247,8 @@ AyTurn ay_desk_send(AyDesk desk, uint16_t *out, size_t out_len);
 /* A follower at which nothing has arrived. Refuses nothing. */
 AyFollower ay_follower_open(void);
 
-/* Takes 262 words in: FIRST, NEXT, REPEAT or CONFLICT, and what was missed and set. Refuses 1 to 14, which the follower counts. */
+/* Takes 262 words in: FIRST, NEXT, REPEAT or CONFLICT, and what was missed and set. Refuses 1 to 10, 15, 11 to 14, which the follower
+ * counts. */
 AyFollowed ay_follower_follow(AyFollower follower, const uint16_t *words, size_t words_len);
 
 #ifdef __cplusplus

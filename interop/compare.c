@@ -4,7 +4,8 @@
  *     takes; and the check of a codeword must say yes exactly where our six sums are 0 and libfec finds nothing to change;
  *   - marked deliveries, held in the same way: every number of marks from none to eight with every number of silent changes from none to four; marks
  *     over bytes that are mostly right; and words between two codewords that are seven bytes apart, where one rule ends and the other begins;
- *   - packets: the 262 words of random records must be those of GStreamer's encoder, and must read back;
+ *   - packets: the 262 words of random records must be those of GStreamer's encoder, and must read back; and what that encoder makes of bytes with
+ *     counters in the reserved area must be refused, at the first of them;
  *   - every number of 16 bits through the word check, and packets with correction off in which upper bits are wrong: what is wrong, and of which
  *     word, must be as counted here.
  * A line for each sort of marked delivery says which rule repaired how many. The last line says how many of each were equal; the exit status is 0
@@ -389,23 +390,18 @@ static int flag_at(const uint8_t *line, int step)
     return -1;
 }
 
-static void packet(GstVideoVBIEncoder *encoder, guint8 *line, long n)
+/* the packet that GStreamer's encoder makes of 248 bytes, with libfec's parity */
+static void foreign(uint16_t words[AY_PACKET_WORDS], const uint8_t record[DATA], int on, int ci, long n)
 {
-    uint8_t record[DATA], back[DATA], user[255];
-    uint16_t words[AY_PACKET_WORDS];
-    AyDesk desk = ay_desk_open(true);
-    memcpy(record, desk.bytes, DATA);
-    for (int i = 107; i < DATA; i++)
-        record[i] = (uint8_t)next();
-    for (int i = 29; i < 33; i++)
-        record[i] = (uint8_t)next();
-    int on = (int)(n % 2), ci = (int)(n % 16);
-    if (ay_write_packet(on, (uint8_t)ci, record, DATA, words, AY_PACKET_WORDS).number != AY_DONE)
-        fail("writing", n);
+    static guint8 line[1920 * 2 * 4];
+    uint8_t user[255];
+    GstVideoVBIEncoder *encoder = gst_video_vbi_encoder_new(GST_VIDEO_FORMAT_v210, 1920);
+    if (!encoder)
+        fail("GStreamer gives no encoder, which", n);
     user[0] = (uint8_t)(on * 0x80 + ci);
     memcpy(user + 1, record, DATA);
     if (on)
-        encode_rs_char(rs, record, user + 1 + DATA);
+        encode_rs_char(rs, user + 1, user + 1 + DATA);
     else
         memset(user + 1 + DATA, 0, 6);
     if (!gst_video_vbi_encoder_add_ancillary(encoder, FALSE, 0x5F, 0xFE, user, 255))
@@ -418,11 +414,58 @@ static void packet(GstVideoVBIEncoder *encoder, guint8 *line, long n)
     if (at < 0)
         fail("GStreamer's line has no packet; it", n);
     for (int i = 0; i < AY_PACKET_WORDS; i++)
-        if (sample(line, at + step * i) != words[i])
-            fail("a word of GStreamer's", n);
+        words[i] = (uint16_t)sample(line, at + step * i);
+    gst_video_vbi_encoder_free(encoder);
+}
+
+static void packet(long n)
+{
+    uint8_t record[DATA], back[DATA];
+    uint16_t words[AY_PACKET_WORDS], theirs[AY_PACKET_WORDS];
+    AyDesk desk = ay_desk_open(true);
+    memcpy(record, desk.bytes, DATA);
+    for (int i = 107; i < DATA; i++)
+        record[i] = (uint8_t)next();
+    for (int i = 29; i < 33; i++)
+        record[i] = (uint8_t)next();
+    int on = (int)(n % 2), ci = (int)(n % 16);
+    if (ay_write_packet(on, (uint8_t)ci, record, DATA, words, AY_PACKET_WORDS).number != AY_DONE)
+        fail("writing", n);
+    foreign(theirs, record, on, ci, n);
+    if (memcmp(words, theirs, sizeof(words)))
+        fail("a word of GStreamer's", n);
     AyPacket p = ay_read_packet_into(words, AY_PACKET_WORDS, back, DATA);
     if (p.number != AY_DONE || p.correction != on || p.ci != ci || p.fixed || memcmp(back, record, DATA))
         fail("reading", n);
+}
+
+/* a foreign encoder's counters, up to three of them in the reserved area and the bytes around it: packet, bytes and desk are refused where a byte of 44
+ * to 107 is not zero, at the first of them, and the packet also where the station code is wrong beside it */
+static void counters(long n)
+{
+    uint16_t words[AY_PACKET_WORDS];
+    AyDesk desk = ay_desk_open(true);
+    for (long i = 0; i <= n % 3; i++)
+        desk.bytes[42 + next() % 66] = (uint8_t)next();
+    int on = (int)(n % 2), station = n % 5 == 0, place = 0;
+    if (station)
+        desk.bytes[0] = 0;
+    for (int i = 107; i >= 44; i--)
+        if (desk.bytes[i - 1])
+            place = i;
+    int number = place ? AY_RESERVED_AREA : station ? AY_STATION : AY_DONE;
+    if (!place && station)
+        place = 1;
+    foreign(words, desk.bytes, on, (int)(n % 16), n);
+    AyPacket p = ay_read_packet(words, AY_PACKET_WORDS);
+    AyFollowed f = ay_follower_follow(ay_follower_open(), words, AY_PACKET_WORDS);
+    if (p.number != number || p.place != place || f.number != number || f.place != place)
+        fail("reading counters", n);
+    AyAnswer a = ay_record_refusal(desk.bytes, DATA), w = ay_write_packet(on, 0, desk.bytes, DATA, words, AY_PACKET_WORDS);
+    if (a.number != number || a.place != place || w.number != number || w.place != place)
+        fail("bytes with counters", n);
+    if (ay_desk_send(desk, words, AY_PACKET_WORDS).number != (number == AY_DONE ? AY_DONE : AY_BROKEN_DESK))
+        fail("sending counters", n);
 }
 
 /* data words of a packet with correction off are changed: reading names the first that is not sound, and what is wrong with it */
@@ -473,15 +516,11 @@ int main(int argc, char **argv)
     }
     for (long n = 0; n < packets; n++)
         unsound(n);
-    static guint8 line[1920 * 2 * 4];
     for (long n = 0; n < packets; n++) {
-        GstVideoVBIEncoder *encoder = gst_video_vbi_encoder_new(GST_VIDEO_FORMAT_v210, 1920);
-        if (!encoder)
-            fail("GStreamer gives no encoder, which", n);
-        packet(encoder, line, n);
-        gst_video_vbi_encoder_free(encoder);
+        packet(n);
+        counters(n);
     }
     printf("compare: %ld deliveries and %ld marked ones equal to libfec and to our check, %ld packets equal to GStreamer's, 65536 words and %ld "
-           "packets with unsound words as counted\n", deliveries, marks, packets, packets);
+           "packets with unsound words and %ld with counters as counted\n", deliveries, marks, packets, packets, packets);
     return 0;
 }

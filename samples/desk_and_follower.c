@@ -200,6 +200,37 @@ static void upper_bits(const AyDesk *desk)
     expect("bits of an unsound word, followed", heard.bits, AY_B9);
 }
 
+/* A foreign encoder keeps counters of its own in the reserved area: the packet, the bytes and the desk that hold them are refused, and the first
+ * of the counters is named. */
+static void counters(const AyDesk *desk)
+{
+    uint16_t words[AY_PACKET_WORDS], kept[AY_PACKET_WORDS];
+    uint8_t record[AY_RECORD_BYTES];
+    AyDesk broken = *desk;
+    expect("number of writing, before the counters", ay_write_packet(false, 0, desk->bytes, AY_RECORD_BYTES, words, AY_PACKET_WORDS).number, AY_DONE);
+    words[6 + 60] = ay_word_of(7);
+    words[6 + 63] = ay_word_of(9);
+    expect("number of counters with another checksum", ay_read_packet(words, AY_PACKET_WORDS).number, AY_CHECKSUM);
+    words[261] = ay_checksum(words + 3, 258);
+    AyPacket packet = ay_read_packet(words, AY_PACKET_WORDS);
+    printf("refused %d %d\n", packet.number, packet.place);
+    expect("number of counters", packet.number, AY_RESERVED_AREA);
+    expect("place of counters", packet.place, 60);
+
+    memcpy(record, desk->bytes, sizeof(record));
+    record[60 - 1] = 7;
+    AyAnswer answer = ay_record_refusal(record, AY_RECORD_BYTES);
+    expect("number of counters in bytes", answer.number, AY_RESERVED_AREA);
+    expect("place of counters in bytes", answer.place, 60);
+    memcpy(kept, words, sizeof(kept));
+    answer = ay_write_packet(true, 0, record, AY_RECORD_BYTES, words, AY_PACKET_WORDS);
+    expect("number of writing counters", answer.number, AY_RESERVED_AREA);
+    expect("place of writing counters", answer.place, 60);
+    expect_bytes("the words after that refusal", words, kept, sizeof(words));
+    broken.bytes[60 - 1] = 7;
+    expect("number of sending counters", ay_desk_send(broken, words, AY_PACKET_WORDS).number, AY_BROKEN_DESK);
+}
+
 /* The packet in a field, and out of it again. */
 static void fields(const uint16_t *sent)
 {
@@ -235,6 +266,7 @@ int main(void)
     readings(&turn.desk, sent, damaged);
     checks(sent);
     upper_bits(&turn.desk);
+    counters(&turn.desk);
     fields(sent);
     follows(turn.desk, damaged);
     return differences == 0 ? 0 : 1;

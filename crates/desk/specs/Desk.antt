@@ -10,8 +10,7 @@ use Rattle.refusal.specs.Chain.{require, passed, leftBy}
 use Rattle.refusal.specs.Number.{refusalPlain}
 use Rattle.refusal.specs.declared.Reason.the-variants.{NothingToUndo, BrokenDesk, Room}
 use Rattle.refusal.specs.declared.Refusal.{Refusal}
-use Rattle.record.specs.Record.{broken, recordOf}
-use Rattle.items.specs.Items.{items}
+use Rattle.record.specs.Record.{contentRefusal, recordOf}
 use Rattle.items.specs.Item.{itemRefusal, cleanOf, putItem}
 use Rattle.refusal.specs.Checked.{checkedOf}
 use Rattle.writing.specs.Layout.{packetWords}
@@ -76,14 +75,14 @@ undone d =
 
 -- ---- send: 24, 23
 
--- is no rule broken?
+-- is nothing in the record refused?
 abbrev pub noneBroken : Option Refusal → Bool
 noneBroken none = true
 noneBroken (some why) = false
 
 unfoldable pub sendRefusal : Desk → ℕ → Option Refusal
 sendRefusal d room =
-    require (noneBroken (broken items (d .bytes))) (refusalPlain BrokenDesk) (require (eqb room 262) (refusalPlain Room) passed)
+    require (noneBroken (contentRefusal (d .bytes))) (refusalPlain BrokenDesk) (require (eqb room 262) (refusalPlain Room) passed)
 
 -- CI modulo 16 is sent, and the next is counted on from it
 unfoldable pub sent : Desk → ℕ → Turn

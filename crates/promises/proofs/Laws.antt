@@ -1,11 +1,12 @@
--- The promises: worked values; demand 1 (Only, Refused, Places), demand 2 (Packets, Words, History) and demand 3 (Line, with a line worked out); what
--- is printed; and what a check is worth (Checking).
+-- The promises: worked values; demand 1 (Only, Refused, Places), demand 2 (Packets, Words, Reserved, History) and demand 3 (Line, with a line worked
+-- out); what is printed; and what a check is worth (Checking).
 pub mod Values
 pub mod Only
 pub mod Calls
 pub mod PacketCalls
 pub mod Packets
 pub mod Words
+pub mod Reserved
 pub mod Checking
 pub mod Refused
 pub mod Placed

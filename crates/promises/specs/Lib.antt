@@ -5,6 +5,7 @@ pub mod Places
 pub mod Calls
 pub mod PacketCalls
 pub mod Words
+pub mod Reserved
 pub mod Checking
 pub mod Packets
 pub mod History

@@ -1,4 +1,4 @@
--- The calls of word, codeword and packet, through their contracts: which answers, and what left in a lent buffer, a contract allows.
+-- The calls of word, codeword, record and packet, through their contracts: which answers, and what left in a lent buffer, a contract allows.
 -- Assumes nothing.
 use mathlib.Core.Path.{_≡_}
 use mathlib.Core.Bool.{Bool}
@@ -18,6 +18,11 @@ use Rattle.soundness.proofs.check_words.Reads as check-words-contract
 use Rattle.rs.specs.declared.Verdict.{Verdict}
 use Rattle.rs.proofs.check_codeword.Kinds as check-codeword-types
 use Rattle.rs.proofs.check_codeword.Reads as check-codeword-contract
+use Rattle.record.proofs.record_refusal.Kinds as record-refusal-types
+use Rattle.record.proofs.record_refusal.Reads as record-refusal-contract
+use Rattle.view.specs.declared.RecordRead.{RecordRead}
+use Rattle.view.proofs.read_record.Kinds as read-record-types
+use Rattle.view.proofs.read_record.Reads as read-record-contract
 use Rattle.writing.specs.declared.Written.{Written}
 use Rattle.writing.proofs.write_packet.Kinds as write-types
 use Rattle.writing.proofs.write_packet.Reads as write-contract
@@ -55,6 +60,22 @@ pub record ChecksCodeword (block : List ℕ) (answer : Verdict) : Type 0 where
   pub exit : AtExit (endedOf 1 check-codeword-types.ps check-codeword-types.r) κs
   pub lent : now (input .0) ≡ block
   pub allowed : check-codeword-contract.Learnt κs input answer exit
+
+-- bytes are checked as those of a record
+pub record ChecksRecord (bytes : List ℕ) (answer : Checked) : Type 0 where
+  pub κs : Lfts 1
+  pub input : Dens κs record-refusal-types.ps
+  pub exit : AtExit (endedOf 1 record-refusal-types.ps record-refusal-types.r) κs
+  pub lent : now (input .0) ≡ bytes
+  pub allowed : record-refusal-contract.Learnt κs input answer exit
+
+-- they are read as a record
+pub record ReadsRecord (bytes : List ℕ) (answer : RecordRead) : Type 0 where
+  pub κs : Lfts 1
+  pub input : Dens κs read-record-types.ps
+  pub exit : AtExit (endedOf 1 read-record-types.ps read-record-types.r) κs
+  pub lent : now (input .0) ≡ bytes
+  pub allowed : read-record-contract.Learnt κs input answer exit
 
 -- bytes are written as a packet, with correction on or off and an index, into a buffer that holds `old`, in which `left` is then left
 pub record Writes (on : Bool) (ci : ℕ) (bytes old : List ℕ) (answer : Written) (left : List ℕ) : Type 0 where

@@ -1,4 +1,5 @@
--- The place of a refusal: the item's first byte for 11 to 14, the number of a data word for 7, else 0; and the bits beside it for C.
+-- The place of a refusal: the item's first byte for 11 to 14, the number of a data word for 7, that of a reserved byte for 15, else 0; and the bits
+-- beside it for C.
 -- Assumes nothing.
 use mathlib.Core.Path.{_≡_}
 use mathlib.Core.Bool.{Bool, true, false, _&&_, _||_}
@@ -30,12 +31,17 @@ pub record ItemAt (number place : ℕ) : Type 0 where
 abbrev pub isWord : ℕ → Bool
 isWord number = eqb number 7
 
--- place is the item's first byte for 11 to 14, the number of a data word, 1 to `last`, for 7, else 0; number 0, where nothing is refused, is
--- among the others. With `last` 0 there is no such word, and the number is not 7.
+-- is it 15, that of the reserved area?
+abbrev pub isReserved : ℕ → Bool
+isReserved number = eqb number 15
+
+-- place is the item's first byte for 11 to 14, the number of a data word, 1 to `last`, for 7, that of a reserved byte, 44 to 107, for 15, else 0;
+-- number 0, where nothing is refused, is among the others. With `last` 0 there is no such word, and the number is not 7.
 pub record RightPlace (last number place : ℕ) : Type 0 where
   pub of-item : isRule number ≡ true → ItemAt number place
   pub of-word : isWord number ≡ true → (1 ≤ place) × (place ≤ last)
-  pub else-zero : (isRule number || isWord number) ≡ false → place ≡ 0
+  pub of-area : isReserved number ≡ true → (44 ≤ place) × (place ≤ 107)
+  pub else-zero : (isRule number || (isWord number || isReserved number)) ≡ false → place ≡ 0
 
 -- where there is a refusal, its place is right
 pub record RightIn (last : ℕ) (o : Option Refusal) : Type 0 where

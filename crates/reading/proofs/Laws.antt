@@ -7,3 +7,4 @@ pub mod Answer
 pub mod Numbers
 pub mod Beyond
 pub mod Parity
+pub mod Used

@@ -69,7 +69,7 @@ unfoldable pub packetBy : List ℕ → List ℕ → Packet
 packetBy words bytes =
     record { correction = correctionOf words; ci = indexOf words; fixed = cond (correctionOf words) (changes (protectedOf words) (soundWords bytes)) 0 }
 
--- 10 to 14, by the bytes that are read
+-- 10, 15, 11 to 14, by the bytes that are read
 unfoldable pub tailRefusal : List ℕ → Bool → List ℕ → Option Refusal
 tailRefusal words on bytes =
     require (eqb (checksumOf (summedBy on words bytes)) (word words 261)) (refusalPlain Checksum) (recordRefusal (take 248 bytes))

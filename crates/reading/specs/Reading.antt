@@ -14,8 +14,7 @@ use Rattle.refusal.specs.Chain.{require, next, passed}
 use Rattle.refusal.specs.Number.{refusalPlain}
 use Rattle.refusal.specs.declared.Reason.the-variants.{Length, Wide, Flag, Kind, Count, Header, Fill, BeyondRepair, Checksum, Room}
 use Rattle.refusal.specs.declared.Refusal.{Refusal}
-use Rattle.record.specs.Record.{broken, recordOf}
-use Rattle.items.specs.Items.{items}
+use Rattle.record.specs.Record.{contentRefusal, recordOf}
 use Rattle.repair.specs.Protected.{repairable, rewritten, fixedOf}
 use Rattle.anc.specs.Words.{hasFlag, lowBytes, narrow}
 
@@ -82,17 +81,17 @@ protectedRefusal correction guarded =
     cond correction (require (repairable guarded) (refusalPlain BeyondRepair) passed)
     (next (unsoundFrom 1 (dataWords guarded)) (require (all isFill (drop 248 guarded)) (refusalPlain Fill) passed))
 
--- 7 to 14: the protected words, the checksum and the record
+-- 7 to 10, 15, 11 to 14: the protected words, the checksum and the record
 unfoldable pub bodyRefusal : List ℕ → Option Refusal
 bodyRefusal words =
     next (protectedRefusal (correctionOf words) (protectedOf words))
-    (require (eqb (checksumOf (summedOf words)) (word words 261)) (refusalPlain Checksum) (broken items (readBytes words)))
+    (require (eqb (checksumOf (summedOf words)) (word words 261)) (refusalPlain Checksum) (contentRefusal (readBytes words)))
 
--- 1 to 14
+-- 1 to 10, 15, 11 to 14
 unfoldable pub readRefusal : List ℕ → Option Refusal
 readRefusal words = next (headRefusal words) (bodyRefusal words)
 
--- 1 to 14, then 23: where room for the record is lent
+-- the same, then 23: where room for the record is lent
 unfoldable pub readIntoRefusal : List ℕ → ℕ → Option Refusal
 readIntoRefusal words room = next (readRefusal words) (require (eqb room 248) (refusalPlain Room) passed)
 
@@ -100,13 +99,20 @@ readIntoRefusal words room = next (readRefusal words) (require (eqb room 248) (r
 abbrev pub OffPacket : List ℕ → Type 0
 OffPacket words = (headRefusal words ≡ passed) × (correctionOf words ≡ false)
 
+-- nothing up to the checksum is refused: 1 to 10
+pub record UpToSum (words : List ℕ) : Type 0 where
+  pub head : headRefusal words ≡ passed
+  pub guarded : protectedRefusal (correctionOf words) (protectedOf words) ≡ passed
+  pub sum : checksumOf (summedOf words) ≡ word words 261
+
 -- the record that is read
 unfoldable pub readRecord : List ℕ → List ℕ
 readRecord words = recordOf (readBytes words)
 
 -- ---- a packet written again
 
--- its places that aren't read were zero: the bytes that are read are their record
+-- its places that aren't read were zero: the bytes that are read are their record. The reserved area is none of these places: where a packet is
+-- not refused it was zero
 abbrev pub Clean : List ℕ → Type 0
 Clean words = readRecord words ≡ readBytes words
 

@@ -100,10 +100,10 @@ fn tail_refusal(words: &[u16], correction: bool, bytes: &[u8]) -> Checked
     requires { ⌜ (length (now words) ≡ 262) × (length (now bytes) ≡ 254) ⌝ }
     ensures { λ r. ⌜ r ≡ checkedOf (tailRefusal (now (words .entry)) correction (now (bytes .entry))) ⌝ }
 {
-    if sum_read(words, correction, bytes) != words[261] {
-        return Checked::Refused(refusal::plain(Reason::Checksum));
-    }
-    record::record_refusal(&bytes[0..248])
+    let is_sum = sum_read(words, correction, bytes) == words[261];
+    let sum = then(Checked::Passed, is_sum, Reason::Checksum, 0);
+    let rec = record::record_refusal(&bytes[0..248]);
+    refusal::next(sum, rec)
 }
 
 // Fills `bytes` with those of the protected words as they are read, and says what the words are refused for behind the header.

@@ -1,3 +1,4 @@
+pub mod Reserved
 pub mod Record
 pub mod Written
 pub mod Stored

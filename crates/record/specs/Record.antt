@@ -6,18 +6,20 @@ use mathlib.Core.Option.{Option}
 use Prim.Native.Nat.{ℕ, _+_}
 use lib.Dec.{eqb}
 use lib.ListN.{length, drop, replicate}
-use Rattle.refusal.specs.Chain.{require, passed}
+use Rattle.refusal.specs.Chain.{require, next, passed}
 use Rattle.refusal.specs.Number.{refusalAt, refusalPlain}
 use Rattle.refusal.specs.declared.Reason.the-variants.{Size}
 use Rattle.refusal.specs.declared.Refusal.{Refusal}
 use Rattle.items.specs.Items.{Row, items, part}
+use Rattle.record.specs.Reserved.{reservedRefusal}
 
 -- the items' bytes, cleaned, one after the other
 unfoldable pub cleaned : List Row → List ℕ → List ℕ
 cleaned [] bytes = []
 cleaned (i ∷ is) bytes = i .clean (part i bytes) ++ cleaned is bytes
 
--- the record: the items cleaned, zeros in the reserved area (bytes 44 to 107), and the private area (bytes 108 to 248) as it is
+-- the record: the items cleaned, zeros in the reserved area (bytes 44 to 107), and the private area (bytes 108 to 248) as it is. The reserved
+-- area is no place that isn't read: of bytes that are not refused the record has zeros there because they were zero
 unfoldable pub recordOf : List ℕ → List ℕ
 recordOf bytes = cleaned items bytes ++ replicate 64 0 ++ drop 107 bytes
 
@@ -26,9 +28,13 @@ unfoldable pub broken : List Row → List ℕ → Option Refusal
 broken [] bytes = passed
 broken (i ∷ is) bytes = require (i .rule (part i bytes)) (refusalAt (i .reason) (i .first)) (broken is bytes)
 
--- what 248 bytes are refused for: their number, then the items' rules
+-- 15, then 11 to 14: what is in 248 bytes
+unfoldable pub contentRefusal : List ℕ → Option Refusal
+contentRefusal bytes = next (reservedRefusal bytes) (broken items bytes)
+
+-- what 248 bytes are refused for: their number, then what is in them
 unfoldable pub recordRefusal : List ℕ → Option Refusal
-recordRefusal bytes = require (eqb (length bytes) 248) (refusalPlain Size) (broken items bytes)
+recordRefusal bytes = require (eqb (length bytes) 248) (refusalPlain Size) (contentRefusal bytes)
 
 -- ---- a part of lent bytes
 

@@ -1,29 +1,60 @@
 // The record: the 248 bytes of a packet's items, reserved area and private area. What they are refused for, the record of some bytes,
-// in which every place that isn't read is zero, one item's bytes in it, and the private area as a part of the caller's own bytes.
+// in which the reserved area and every place that isn't read is zero, one item's bytes in it, and the private area as a part of the caller's
+// own bytes.
 ghost use mathlib.Core.Path.{_≡_};
+ghost use Prim.Native.Nat.{_+_, _≤_};
 ghost use lib.ListN.{length};
-ghost use Rattle.record.specs.Record.{recordRefusal, bytesOn, privatePart, privateStart};
+ghost use Rattle.items.specs.Items.{items};
 ghost use Rattle.refusal.specs.Checked.{checkedOf};
+ghost use Rattle.refusal.specs.Run.{firstFrom};
+ghost use Rattle.record.specs.Reserved.{usedAt};
+ghost use Rattle.record.specs.Record.{broken, recordRefusal, bytesOn, privatePart, privateStart};
 ghost use Rattle.record.specs.Stored.{itemLent, itemStart, putRefusal, putLeaves, storeRefusal, storeLeaves};
 ghost use Rattle.record.specs.Written.{writtenRefusal, written};
 use refusal::Checked;
 use refusal::Reason;
 use refusal::then;
 
-// What the bytes of a record are refused for: another number of them than 248, or the first item whose rule they break.
+// What the bytes of a record are refused for: another number of them than 248, the first byte of the reserved area that is not zero, or the
+// first item whose rule they break.
 pub fn record_refusal(bytes: &[u8]) -> Checked
     ensures { λ r. ⌜ r ≡ checkedOf (recordRefusal (now (bytes .entry))) ⌝ }
 {
     if bytes.len() != 248 {
         return Checked::Refused(refusal::plain(Reason::Size));
     }
+    let reserved = first_used(44, &bytes[43..107]);
+    let rules = first_broken(bytes);
+    refusal::next(reserved, rules)
+}
+
+// Of bytes that are numbered on from `first`, the first that is not zero is the refusal.
+fn first_used(first: u8, bytes: &[u8]) -> Checked
+    requires { ⌜ first + length (now bytes) ≤ 256 ⌝ }
+    ensures { λ r. ⌜ r ≡ checkedOf (firstFrom usedAt first (now (bytes .entry))) ⌝ }
+{
+    let mut i = 0;
+    while i < bytes.len() {
+        if bytes[i] != 0 {
+            return Checked::Refused(refusal::at(Reason::ReservedArea, (first as usize + i) as u8));
+        }
+        i += 1;
+    }
+    Checked::Passed
+}
+
+// The first item of 248 bytes whose rule they break is the refusal.
+fn first_broken(bytes: &[u8]) -> Checked
+    requires { ⌜ length (now bytes) ≡ 248 ⌝ }
+    ensures { λ r. ⌜ r ≡ checkedOf (broken items (now (bytes .entry))) ⌝ }
+{
     let is_time = rules::time(nine(&bytes[8..17]));
     let is_current = rules::picture(four(&bytes[17..21]));
     let is_next = rules::picture(four(&bytes[21..25]));
     let current_sound = bytes[26];
     let next_sound = bytes[27];
-    let size = Checked::Passed;
-    let station = then(size, rules::station(&bytes[0..8]), Reason::Station, 1);
+    let before = Checked::Passed;
+    let station = then(before, rules::station(&bytes[0..8]), Reason::Station, 1);
     let time = then(station, is_time, Reason::Time, 9);
     let current = then(time, is_current, Reason::Picture, 18);
     let next = then(current, is_next, Reason::Picture, 22);

@@ -1,3 +1,4 @@
 pub mod Number
 pub mod Chain
+pub mod Run
 pub mod Checked

@@ -5,12 +5,12 @@ use Prim.Native.Nat.{ℕ}
 use Rattle.refusal.specs.declared.Wrong.{Wrong}
 use Rattle.refusal.specs.declared.Wrong.the-variants.{B8, B9, Both}
 use Rattle.refusal.specs.declared.Reason.{Reason}
-use Rattle.refusal.specs.declared.Reason.the-variants.{Length, Wide, Flag, Kind, Count, Header, Parity, Fill, BeyondRepair, Checksum, Station, Time, Picture, Sound, Item, Size, NothingToUndo, Room, BrokenDesk, FieldLength, FieldHead, Index}
+use Rattle.refusal.specs.declared.Reason.the-variants.{Length, Wide, Flag, Kind, Count, Header, Parity, Fill, BeyondRepair, Checksum, Station, Time, Picture, Sound, ReservedArea, Item, Size, NothingToUndo, Room, BrokenDesk, FieldLength, FieldHead, Index}
 use Rattle.refusal.specs.declared.Refusal.{Refusal}
 
 -- the numbers that may be given, in order
 unfoldable pub fixedList : List ℕ
-fixedList = 1 ∷ 2 ∷ 3 ∷ 4 ∷ 5 ∷ 6 ∷ 7 ∷ 8 ∷ 9 ∷ 10 ∷ 11 ∷ 12 ∷ 13 ∷ 14 ∷ 20 ∷ 21 ∷ 22 ∷ 23 ∷ 24 ∷ 25 ∷ 26 ∷ 27 ∷ []
+fixedList = 1 ∷ 2 ∷ 3 ∷ 4 ∷ 5 ∷ 6 ∷ 7 ∷ 8 ∷ 9 ∷ 10 ∷ 11 ∷ 12 ∷ 13 ∷ 14 ∷ 15 ∷ 20 ∷ 21 ∷ 22 ∷ 23 ∷ 24 ∷ 25 ∷ 26 ∷ 27 ∷ []
 
 -- the number of each reason
 unfoldable pub numberOf : Reason → ℕ
@@ -28,6 +28,7 @@ numberOf Station = 11
 numberOf Time = 12
 numberOf Picture = 13
 numberOf Sound = 14
+numberOf ReservedArea = 15
 numberOf Item = 20
 numberOf Size = 21
 numberOf NothingToUndo = 22
@@ -59,6 +60,7 @@ bitsIn Station = 0
 bitsIn Time = 0
 bitsIn Picture = 0
 bitsIn Sound = 0
+bitsIn ReservedArea = 0
 bitsIn Item = 0
 bitsIn Size = 0
 bitsIn NothingToUndo = 0

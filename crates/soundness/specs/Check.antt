@@ -2,12 +2,13 @@
 -- Assumes nothing.
 use mathlib.Core.Path.{_≡_}
 use mathlib.Core.Bool.{Bool, true, false, cond}
-use mathlib.Core.List.{List, [], _∷_}
+use mathlib.Core.List.{List}
 use mathlib.Core.Option.{Option, none, some}
-use Prim.Native.Nat.{ℕ, suc, _+_, _-_, _<_}
+use Prim.Native.Nat.{ℕ, _+_, _-_, _<_}
 use lib.Dec.{leb, eqb}
 use lib.ListN.{length, getD}
-use Rattle.refusal.specs.Chain.{require, next, passed}
+use Rattle.refusal.specs.Chain.{require, passed}
+use Rattle.refusal.specs.Run.{firstFrom}
 use Rattle.refusal.specs.Number.{refusalAt, refusalPlain}
 use Rattle.refusal.specs.declared.Wrong.{Wrong}
 use Rattle.refusal.specs.declared.Wrong.the-variants.{B8, B9, Both}
@@ -62,8 +63,7 @@ wordRefusal n (Refused why) = some why
 
 -- words that are numbered on from n: the first that is not sound is the refusal
 unfoldable pub unsoundFrom : ℕ → List ℕ → Option Refusal
-unsoundFrom n [] = passed
-unsoundFrom n (w ∷ words) = next (wordRefusal n (soundnessOf w)) (unsoundFrom (suc n) words)
+unsoundFrom = firstFrom (λ n w. wordRefusal n (soundnessOf w))
 
 -- words that are numbered from 1: 21 for more of them than there are places, then that
 unfoldable pub wordsRefusal : List ℕ → Option Refusal

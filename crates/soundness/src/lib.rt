@@ -81,7 +81,7 @@ fn first_unsound(words: &[u16]) -> Checked
     let mut found = Checked::Passed;
     let mut i = 0;
     while i < words.len() {
-        found = refusal::next(found, word_refusal((i + 1) as u8, words[i]));
+        found = refusal::next(found, word_refusal((1 + i) as u8, words[i]));
         i += 1;
     }
     found

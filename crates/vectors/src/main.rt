@@ -1,8 +1,9 @@
 // Runs what is compared and not proved: parities, repairs and checks that another program worked out, the same repairs by the plain repairer,
-// three changed words at both ends of the codeword and six that confess, the end of the history, and a day of a desk and a follower over a
-// damaged line. Prints what was compared.
+// three changed words at both ends of the codeword and six that confess, the end of the history, a foreign encoder's counters, and a day of a
+// desk and a follower over a damaged line. Prints what was compared.
 mod day;
 mod desk_cases;
+mod foreign;
 mod outside;
 
 // A line: a word and a number.
@@ -41,6 +42,21 @@ fn main() {
     let undone = desk_cases::undos_after(33);
     line(b"undos after 33 edits: ", undone.count);
     line(b"then refused: ", undone.number);
+    let reserved = foreign::read_with(59);
+    line(
+        b"counters in bytes 60 to 63, of which 61 is the first that is not zero, refused: ",
+        reserved.number,
+    );
+    line(b"at byte: ", reserved.place);
+    let last = foreign::read_with(105);
+    line(b"a counter in byte 107, refused: ", last.number);
+    line(b"at byte: ", last.place);
+    let private = foreign::read_with(106);
+    line(b"counters in bytes 108 and 110, refused: ", private.number);
+    line(
+        b"the follower's refused packets, its record as it was: ",
+        foreign::followed_with(59),
+    );
     let day = day::run();
     line(b"a day, packets sent: ", day.sent as u64);
     line(b"delivered: ", day.delivered as u64);

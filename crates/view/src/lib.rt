@@ -300,7 +300,7 @@ pub struct RecordRead {
     pub view: RecordView,
 }
 
-// Reads a record from bytes: 21, then 11 to 14 with their places.
+// Reads a record from bytes: 21, then 15 and 11 to 14 with their places.
 pub fn read_record(bytes: &[u8]) -> RecordRead
     ensures { λ r. ⌜ r ≡ recordReadOf (now (bytes .entry)) ⌝ }
 {

@@ -10,15 +10,14 @@ use Rattle.refusal.specs.Chain.{require, next, passed}
 use Rattle.refusal.specs.Number.{refusalPlain}
 use Rattle.refusal.specs.declared.Reason.the-variants.{Size, Index, Room}
 use Rattle.refusal.specs.declared.Refusal.{Refusal}
-use Rattle.record.specs.Record.{broken, recordOf}
-use Rattle.items.specs.Items.{items}
+use Rattle.record.specs.Record.{contentRefusal, recordOf}
 use Rattle.writing.specs.Layout.{packetWords}
 
--- 21, 27, 11 to 14, 23: the bytes, the index, and room for so many words
+-- 21, 27, 15, 11 to 14, 23: the bytes, the index, and room for so many words
 unfoldable pub writeRefusal : ℕ → List ℕ → ℕ → Option Refusal
 writeRefusal ci bytes room =
     require (eqb (length bytes) 248) (refusalPlain Size)
-    (require (leb ci 15) (refusalPlain Index) (next (broken items bytes) (require (eqb room 262) (refusalPlain Room) passed)))
+    (require (leb ci 15) (refusalPlain Index) (next (contentRefusal bytes) (require (eqb room 262) (refusalPlain Room) passed)))
 
 -- the words of the bytes' record
 unfoldable pub writtenWords : Bool → ℕ → List ℕ → List ℕ

@@ -34,6 +34,10 @@ part-take (suc n) m zero l h = absurd (omega arith)
 part-take (suc n) m (suc k) [] h = refl
 part-take (suc n) m (suc k) (x ∷ l) h = part-take n m k l (omega arith)
 
+-- an entry of a run
+pub run-at : (s k : ℕ) (l : List ℕ) (i : ℕ) → i < k → getD (take k (drop s l)) i 0 ≡ getD l (s + i) 0
+run-at s k l i h = getD-take k (drop s l) i 0 h ∙ getD-drop s l i 0
+
 -- two lists with a run in common have each part of it in common
 pub part-same : (x y : List ℕ) (s k n m : ℕ) → take k (drop s x) ≡ take k (drop s y) → n + m ≤ k
     → take m (drop (s + n) x) ≡ take m (drop (s + n) y)
@@ -43,8 +47,7 @@ part-same x y s k n m e h =
 
 -- and each entry
 pub entry-same : (x y : List ℕ) (s k i : ℕ) → take k (drop s x) ≡ take k (drop s y) → i < k → getD x (s + i) 0 ≡ getD y (s + i) 0
-entry-same x y s k i e h =
-    sym (getD-drop s x i 0) ∙ sym (getD-take k (drop s x) i 0 h) ∙ ap (λ (l : List ℕ). getD l i 0) e ∙ getD-take k (drop s y) i 0 h ∙ getD-drop s y i 0
+entry-same x y s k i e h = sym (run-at s k x i h) ∙ ap (λ (l : List ℕ). getD l i 0) e ∙ run-at s k y i h
 
 -- ---- the entries of a run, one by one
 

@@ -16,15 +16,14 @@ use Rattle.refusal.specs.declared.Refusal.{Refusal}
 use Rattle.refusal.specs.declared.Checked.{Checked}
 use Rattle.refusal.specs.declared.Checked.the-variants.{Passed, Refused}
 use Rattle.refusal.specs.Checked.{checkedOf}
-use Rattle.record.specs.Record.{broken, recordRefusal, recordOf}
-use Rattle.items.specs.Items.{items}
+use Rattle.record.specs.Record.{contentRefusal, recordRefusal, recordOf}
 use Rattle.items.specs.Item.{itemRefusal, cleanOf, putItem}
 use Rattle.record.specs.Stored.{storeRefusal, storeLeaves}
 use Rattle.refusal.proofs.Laws.Chain.{told}
 use Rattle.writing.specs.Layout.{packetWords}
 use Rattle.writing.specs.Writing.{writeRefusal, writtenWords}
 use Rattle.writing.specs.Written.{writeLeaves}
-use Rattle.record.proofs.Laws.Record.{rules-decide}
+use Rattle.record.proofs.Laws.Reserved.{content-decides}
 use Rattle.steps.specs.declared.Step.{Step}
 use Rattle.steps.specs.declared.Kept.{Kept}
 use Rattle.steps.specs.Steps.{heldOf, keptOf, pushed, countOn}
@@ -83,26 +82,26 @@ module _ (d : Desk) (k : ℕ) (e : k ≡ heldOf (d .count)) where
 -- ---- send
 
 module _ (d : Desk) (old : List ℕ) (said : Checked) (n : length (d .bytes) ≡ 248) (e : said ≡ checkedOf (recordRefusal (d .bytes))) where
-  rules-said : (o : Checked) → said ≡ o → checkedOf (broken items (d .bytes)) ≡ o
-  rules-said o s = ap checkedOf (sym (rules-decide (d .bytes) n)) ∙ sym e ∙ s
+  rules-said : (o : Checked) → said ≡ o → checkedOf (contentRefusal (d .bytes)) ≡ o
+  rules-said o s = ap checkedOf (sym (content-decides (d .bytes) n)) ∙ sym e ∙ s
 
   pub send-broken : (why given : Refusal) → said ≡ Refused why → given ≡ refusalPlain BrokenDesk
       → (turn d (Refused given) ≡ sent d (length old)) × (old ≡ sendLeaves d old)
   unfolding sent sendLeaves sendRefusal
   send-broken why given s g =
-      let b : broken items (d .bytes) ≡ some why = told (broken items (d .bytes)) (Refused why) (Refused why) (sym (rules-said (Refused why) s)) refl in
+      let b : contentRefusal (d .bytes) ≡ some why = told (contentRefusal (d .bytes)) (Refused why) (Refused why) (sym (rules-said (Refused why) s)) refl in
       rw (b, g) (refl, refl)
 
   module _ (s : said ≡ Passed) where
-    kept : broken items (d .bytes) ≡ none
-    kept = told (broken items (d .bytes)) Passed Passed (sym (rules-said Passed s)) refl
+    kept : contentRefusal (d .bytes) ≡ none
+    kept = told (contentRefusal (d .bytes)) Passed Passed (sym (rules-said Passed s)) refl
 
     pub send-room : (given : Refusal) → (length old ≡ 262 → ⊥) → given ≡ refusalPlain Room
         → (turn d (Refused given) ≡ sent d (length old)) × (old ≡ sendLeaves d old)
     unfolding sent sendLeaves sendRefusal
     send-room given f g = simp (kept, ne-eqb (length old) 262 f) (rw g (refl, refl))
 
-    -- no rule is broken and there is room
+    -- nothing in the record is refused and there is room
     pub send-passes : length old ≡ 262 → sendRefusal d (length old) ≡ none
     unfolding sendRefusal
     send-passes m = simp (kept, m)

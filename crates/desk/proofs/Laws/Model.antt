@@ -15,7 +15,9 @@ use Rattle.refusal.specs.Number.{refusalPlain}
 use Rattle.refusal.specs.declared.Reason.the-variants.{Room}
 use Rattle.refusal.specs.declared.Refusal.{Refusal}
 use Rattle.rules.specs.Rules.{stationRule, stationByte, timeRule, timeByte, decimal, pictureRule, pictureClean, soundRule, soundByte}
-use Rattle.record.specs.Record.{cleaned, recordOf, broken}
+use Rattle.refusal.specs.Run.{firstFrom}
+use Rattle.record.specs.Reserved.{reservedArea, reservedRefusal}
+use Rattle.record.specs.Record.{cleaned, recordOf, broken, contentRefusal}
 use Rattle.items.specs.Items.{items, part}
 use Rattle.items.specs.Item.{rowOf, put, putIn, itemRefusal, cleanOf, putItem}
 use Rattle.basics.specs.Each.{all}
@@ -85,7 +87,7 @@ pub record Stands (on : Bool) (d : Desk) (m : Model) : Type 0 where
 
 -- the opening record is clean
 opening-clean : CleanRecord opening
-unfolding opening items part cleaned recordOf broken rowOf put putIn putItem stationRule stationByte timeRule timeByte decimal all pictureRule pictureClean soundRule soundByte
+unfolding opening items part cleaned recordOf reservedArea firstFrom reservedRefusal broken contentRefusal rowOf put putIn putItem stationRule stationByte timeRule timeByte decimal all pictureRule pictureClean soundRule soundByte
 opening-clean = record { long = refl; rules = refl; own = refl }
 
 pub open-stands : (on : Bool) → Stands on (opened on) fresh
@@ -202,7 +204,7 @@ module _ (on : Bool) (d : Desk) (m : Model) (s : Stands on d m) where
 
   -- ---- a send
 
-  -- the rules are kept, so that only the room decides
+  -- nothing in the record is refused, so that only the room decides
   pub send-by-room : (room : ℕ) → sendRefusal d room ≡ require (eqb room 262) (refusalPlain Room) passed
   unfolding sendRefusal
   send-by-room room = rw (s .bytes, s .clean .present .rules)

@@ -9,7 +9,9 @@ use Rattle.refusal.specs.Number.{refusalAt, refusalPlain}
 use Rattle.refusal.specs.declared.Reason.the-variants.{Sound, NothingToUndo}
 use Rattle.basics.specs.Each.{all}
 use Rattle.rules.specs.Rules.{stationRule, stationByte, timeRule, timeByte, decimal, oneOf, pictureRule, pictureClean, soundRule, soundByte}
-use Rattle.record.specs.Record.{broken}
+use Rattle.refusal.specs.Run.{firstFrom}
+use Rattle.record.specs.Reserved.{reservedArea, reservedRefusal}
+use Rattle.record.specs.Record.{broken, contentRefusal}
 use Rattle.items.specs.Items.{items, part}
 use Rattle.items.specs.Item.{rowOf, refusedIn, itemRefusal, placeIn, placeOf, put, cleanIn, cleanOf, partIn, itemPart, putIn, putItem}
 use Rattle.refusal.specs.Checked.{refusalIn}
@@ -36,5 +38,5 @@ pub record Values : Type 0 where
   pub count-200 : heldOf 200 ≡ 32
 
 pub values : Values
-unfolding opened opening noStep heldOf padded stepOf pushed countOn backFrom edited undoRefusal undone sendRefusal sent stationRule stationByte timeRule timeByte decimal all oneOf pictureRule pictureClean soundRule soundByte items part broken rowOf refusedIn itemRefusal placeIn placeOf put cleanIn cleanOf partIn itemPart putIn putItem itemLent putRefusedIn putRefusal putLeaves
+unfolding opened opening noStep heldOf padded stepOf pushed countOn backFrom edited undoRefusal undone sendRefusal sent stationRule stationByte timeRule timeByte decimal all oneOf pictureRule pictureClean soundRule soundByte items part firstFrom reservedArea reservedRefusal broken contentRefusal rowOf refusedIn itemRefusal placeIn placeOf put cleanIn cleanOf partIn itemPart putIn putItem itemLent putRefusedIn putRefusal putLeaves
 values = record { sent-on = refl; put-back = refl; step-gone = refl; none-left = refl; sound-0x1B = refl; count-200 = refl }

@@ -1,4 +1,4 @@
--- What the contracts say of the calls of word, codeword and packet, as equations.
+-- What the contracts say of the calls of word, codeword, record and packet, as equations.
 -- Assumes nothing.
 use mathlib.Core.Path.{_≡_, sym, ap, _∙_}
 use mathlib.Core.Bool.{Bool}
@@ -11,13 +11,16 @@ use Rattle.soundness.specs.declared.Soundness.{Soundness}
 use Rattle.soundness.specs.Check.{soundnessOf, wordsRefusal}
 use Rattle.rs.specs.declared.Verdict.{Verdict}
 use Rattle.rs.specs.Check.{verdictOf}
+use Rattle.record.specs.Record.{recordRefusal}
+use Rattle.view.specs.declared.RecordRead.{RecordRead}
+use Rattle.view.specs.Read.{recordReadOf}
 use Rattle.writing.specs.declared.Written.{Written}
 use Rattle.writing.specs.Written.{writtenOf, writeLeaves}
 use Rattle.reading.specs.declared.Reading.{Reading}
 use Rattle.reading.specs.Answer.{readingOf, readingIntoOf, readLeaves}
 use Rattle.repair.specs.declared.Repaired.{Repaired}
 use Rattle.repair.specs.Repair.{repairedOf, repairLeaves}
-use Rattle.promises.specs.PacketCalls.{ChecksWord, ChecksWords, ChecksCodeword, Writes, ReadsPacket, ReadsInto, Repairs}
+use Rattle.promises.specs.PacketCalls.{ChecksWord, ChecksWords, ChecksCodeword, ChecksRecord, ReadsRecord, Writes, ReadsPacket, ReadsInto, Repairs}
 
 pub checks-word-is : (word : ℕ) (a : Soundness) → ChecksWord word a → a ≡ soundnessOf word
 checks-word-is word a C = C .allowed ∙ ap soundnessOf (C .given)
@@ -27,6 +30,12 @@ checks-words-is words a C = C .allowed ∙ ap (λ (l : List ℕ). checkedOf (wor
 
 pub checks-codeword-is : (block : List ℕ) (a : Verdict) → ChecksCodeword block a → a ≡ verdictOf block
 checks-codeword-is block a C = C .allowed ∙ ap verdictOf (C .lent)
+
+pub checks-record-is : (bytes : List ℕ) (a : Checked) → ChecksRecord bytes a → a ≡ checkedOf (recordRefusal bytes)
+checks-record-is bytes a C = C .allowed ∙ ap (λ (l : List ℕ). checkedOf (recordRefusal l)) (C .lent)
+
+pub reads-record-is : (bytes : List ℕ) (a : RecordRead) → ReadsRecord bytes a → a ≡ recordReadOf bytes
+reads-record-is bytes a R = R .allowed ∙ ap recordReadOf (R .lent)
 
 pub writes-is : (on : Bool) (ci : ℕ) (bytes old : List ℕ) (a : Written) (left : List ℕ) → Writes on ci bytes old a left → a ≡ writtenOf ci bytes (length old)
 writes-is on ci bytes old a left W = W .allowed .0 ∙ (λ i. writtenOf (W .index i) (W .lent i) (length (W .room i)))

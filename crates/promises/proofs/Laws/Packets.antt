@@ -151,12 +151,12 @@ module _ (on : Bool) (ci : ℕ) (bytes old words : List ℕ) (W : Writes on ci b
 -- ---- read and written again: the same words exactly when nothing was fixed and the places that aren't read were zero
 
 module _ (words room : List ℕ) (p : Packet) (left : List ℕ) (R : ReadsInto words room (Accepted p) left) where
-  accepted : (readRefusal words ≡ none) × (p ≡ packetOf words) × (readLeaves words room ≡ readRecord words)
+  pub accepted : (readRefusal words ≡ none) × (p ≡ packetOf words) × (readLeaves words room ≡ readRecord words)
   accepted =
       let e = reads-into-is words room (Accepted p) left R in
       accepted-is words room (Accepted p) (accepted-room words (length room) p (sym e)) e p refl
 
-  record-left : left ≡ readRecord words
+  pub record-left : left ≡ readRecord words
   record-left = reads-into-leaves words room (Accepted p) left R ∙ accepted .2
 
   pub read-written : (old : List ℕ) (answer : Written) (again : List ℕ) → Writes (p .correction) (p .ci) left old answer again → length old ≡ 262

@@ -8,15 +8,16 @@ use mathlib.Core.Logic.{_⊎_, inl, inr, ⊎-elim}
 use mathlib.Core.Option.{Option, none, some, Option·some-ne-none}
 use Prim.Native.Nat.{ℕ, suc, _+_, _≤_}
 use native.Mathlib.Omega.{arith}
-use borrow.Author.Tests.{eqb-true, leb-true}
+use borrow.Author.Tests.{eqb-true, leb-true, not-true}
 use lib.Dec.{leb, eqb}
-use lib.ListN.{length}
+use lib.ListN.{length, take, drop}
 use Rattle.basics.proofs.Laws.Parts.{take-most}
 use Rattle.refusal.specs.Chain.{require, passed, next}
 use Rattle.refusal.specs.Checked.{refusalIn}
+use Rattle.refusal.specs.Run.{firstFrom}
 use Rattle.refusal.specs.Number.{numberOf, refusalAt, refusalPlain}
 use Rattle.refusal.specs.declared.Reason.{Reason}
-use Rattle.refusal.specs.declared.Reason.the-variants.{Wide, Parity, Size}
+use Rattle.refusal.specs.declared.Reason.the-variants.{Wide, Parity, ReservedArea, Size}
 use Rattle.refusal.specs.declared.Refusal.{Refusal}
 use Rattle.refusal.proofs.Laws.Chain.{passed-other}
 use Rattle.anc.specs.Words.{fillRefusal}
@@ -29,7 +30,8 @@ use Rattle.rs.specs.Decode.{decodeRefusal}
 use Rattle.search.specs.Marked.{markedRefusal}
 use Rattle.items.specs.Items.{Row, items, part}
 use Rattle.items.specs.Item.{rowOf, refusedIn, itemRefusal, placeIn, placeOf}
-use Rattle.record.specs.Record.{broken, recordRefusal}
+use Rattle.record.specs.Reserved.{reservedArea, usedAt, reservedRefusal}
+use Rattle.record.specs.Record.{broken, contentRefusal, recordRefusal}
 use Rattle.record.specs.Written.{writtenRefusal}
 use Rattle.record.specs.Stored.{putRefusedIn, putRefusal, storeRefusal}
 use Rattle.repair.specs.Protected.{countRefusal, repairRefusal}
@@ -41,7 +43,7 @@ use Rattle.desk.specs.declared.Desk.{Desk}
 use Rattle.desk.specs.Desk.{undoRefusal, sendRefusal}
 use Rattle.b40.specs.Packing.{packRefusal}
 use Rattle.b40.specs.Unpacking.{unpackRefusal}
-use Rattle.promises.specs.Places.{isRule, isWord, RightPlace, RightIn}
+use Rattle.promises.specs.Places.{isRule, isWord, isReserved, RightPlace, RightIn}
 
 -- ---- chains of checks
 
@@ -62,19 +64,25 @@ next-right : {last : ℕ} {rest : Option Refusal} (first : Option Refusal) → R
 next-right none p q = q
 next-right (some why) p q = p
 
--- place 0 is right for a reason that is no item's rule and no data word's
+-- place 0 is right for a reason that is no item's rule, no data word's and not that of the reserved area
 abbrev isPlain : Reason → Bool
-isPlain why = not (isRule (numberOf why) || isWord (numberOf why))
+isPlain why = not (isRule (numberOf why) || (isWord (numberOf why) || isReserved (numberOf why)))
+
+-- of two tests neither passes
+neither : (a b : Bool) → not (a || b) ≡ true → (a ≡ false) × (not b ≡ true)
+neither true b e = absurd (false≢true e)
+neither false b e = (refl, e)
 
 plain-right : {last : ℕ} (why : Reason) → isPlain why ≡ true → RightPlace last (numberOf why) 0
 plain-right why e =
-    let none = neither (isRule (numberOf why)) (isWord (numberOf why)) e in
-    record { of-item = λ t. absurd (false≢true (sym (none .0) ∙ t)); of-word = λ t. absurd (false≢true (sym (none .1) ∙ t)); else-zero = λ f. refl }
-  where
-    neither : (a b : Bool) → not (a || b) ≡ true → (a ≡ false) × (b ≡ false)
-    neither true b e = absurd (false≢true e)
-    neither false true e = absurd (false≢true e)
-    neither false false e = (refl, refl)
+    let rule = neither (isRule (numberOf why)) _ e in
+    let word = neither (isWord (numberOf why)) (isReserved (numberOf why)) (rule .1) in
+    record {
+      of-item = λ t. absurd (false≢true (sym (rule .0) ∙ t));
+      of-word = λ t. absurd (false≢true (sym (word .0) ∙ t));
+      of-area = λ t. absurd (false≢true (sym (not-true (isReserved (numberOf why)) (word .1)) ∙ t));
+      else-zero = λ f. refl;
+    }
 
 refused-plain : {last : ℕ} (why : Reason) → isPlain why ≡ true → RightIn last (some (refusalPlain why))
 refused-plain why e = refused-right (refusalPlain why) (plain-right why e)
@@ -106,9 +114,9 @@ ruled-at : {i : Row} {is : List Row} → List·Memᴰ i is → AllRuled is → R
 ruled-at (List·Memᴰ·head e) (r, more) = rw e r
 ruled-at (List·Memᴰ·tail m) (r, more) = ruled-at m more
 
--- which is not 7
-rule-other : (n : ℕ) → isRule n ≡ true → isWord n ≡ true → ⊥
-rule-other n e w = let seven : n ≡ 7 = eqb-true n 7 w in false≢true (rw seven at e)
+-- which is no other number: not 7, not 15
+rule-other : (n m : ℕ) → isRule m ≡ false → isRule n ≡ true → eqb n m ≡ true → ⊥
+rule-other n m f e w = false≢true (sym f ∙ ap isRule (sym (eqb-true n m w)) ∙ e)
 
 -- where an item's rule is broken, the place is the item's first byte
 rule-right : {last : ℕ} (i : Row) → List·Memᴰ i items → (bytes : List ℕ) → i .rule bytes ≡ false → RightPlace last (numberOf (i .reason)) (i .first)
@@ -116,8 +124,9 @@ rule-right i m bytes f =
     ⊎-elim
     (λ e. record {
       of-item = λ t. record { row = i; listed = m; reason = refl; first = refl };
-      of-word = λ w. absurd (rule-other (numberOf (i .reason)) e w);
-      else-zero = λ n. absurd (false≢true (sym n ∙ ap (λ (b : Bool). b || isWord (numberOf (i .reason))) e));
+      of-word = λ w. absurd (rule-other (numberOf (i .reason)) 7 refl e w);
+      of-area = λ w. absurd (rule-other (numberOf (i .reason)) 15 refl e w);
+      else-zero = λ n. absurd (false≢true (sym n ∙ ap (λ (b : Bool). b || (isWord (numberOf (i .reason)) || isReserved (numberOf (i .reason)))) e));
     })
     (λ e. absurd (false≢true (sym f ∙ e bytes)))
     (ruled-at m items-ruled)
@@ -154,6 +163,34 @@ pub item-right : {last : ℕ} (n : ℕ) (bytes : List ℕ) → RightIn last (ite
 unfolding itemRefusal
 item-right n bytes = row-right bytes (rowOf n items) (row-listed n items)
 
+-- ---- a run of entries
+
+-- each of those with a number from `from` to `to` has its right place
+first-right : {last : ℕ} (from to : ℕ) (refuses : ℕ → ℕ → Option Refusal) → ((n x : ℕ) → from ≤ n → n ≤ to → RightIn last (refuses n x))
+    → (n : ℕ) (l : List ℕ) → from ≤ n → n + length l ≤ suc to → RightIn last (firstFrom refuses n l)
+unfolding firstFrom
+first-right from to refuses right n [] h k = passed-right
+first-right from to refuses right n (x ∷ l) h k =
+    next-right _ (right n x h (omega arith)) (first-right from to refuses right (suc n) l (omega arith) (omega arith))
+
+-- ---- the reserved area, and what is in 248 bytes
+
+used-right : {last : ℕ} (n b : ℕ) → 44 ≤ n → n ≤ 107 → RightIn last (usedAt n b)
+unfolding numberOf
+used-right n b h k =
+    require-right (eqb b 0) (refusalAt ReservedArea n)
+    (λ f. record {
+      of-item = λ t. absurd (false≢true t);
+      of-word = λ t. absurd (false≢true t);
+      of-area = λ t. (h, k);
+      else-zero = λ z. absurd (false≢true (sym z));
+    }) passed-right
+
+content-right : {last : ℕ} (bytes : List ℕ) → RightIn last (contentRefusal bytes)
+unfolding contentRefusal reservedRefusal reservedArea
+content-right bytes =
+    next-right _ (first-right 44 107 usedAt used-right 44 (take 64 (drop 43 bytes)) (omega arith) (omega (arith, take-most 64 (drop 43 bytes)))) (broken-right bytes)
+
 -- ---- a run of words
 
 -- numbered on from n, up to the last
@@ -163,13 +200,17 @@ module _ (last : ℕ) where
   word-right n w Sound e h k = passed-right
   word-right n w (Unsound wrong) e h k =
       refused-right (refusalAt (Parity wrong) n)
-      (record { of-item = λ t. absurd (false≢true t); of-word = λ t. (h, k); else-zero = λ f. absurd (false≢true (sym f)) })
+      (record {
+        of-item = λ t. absurd (false≢true t);
+        of-word = λ t. (h, k);
+        of-area = λ t. absurd (false≢true t);
+        else-zero = λ f. absurd (false≢true (sym f));
+      })
   word-right n w (Refused why) e h k = rw (refused-wide w why e) (refused-plain Wide refl)
 
   unsound-right : (n : ℕ) (words : List ℕ) → 1 ≤ n → n + length words ≤ suc last → RightIn last (unsoundFrom n words)
   unfolding unsoundFrom
-  unsound-right n [] h k = passed-right
-  unsound-right n (w ∷ words) h k = next-right _ (word-right n w (soundnessOf w) refl h (omega arith)) (unsound-right (suc n) words (omega arith) (omega arith))
+  unsound-right n words h k = first-right 1 last _ (λ m w a b. word-right m w (soundnessOf w) refl a b) n words h k
 
 pub check-right : (w : ℕ) → RightIn 0 (refusalInWord (soundnessOf w))
 check-right w = by (soundnessOf w) refl
@@ -215,7 +256,7 @@ place-right n = by (rowOf n items)
 
 pub record-right : (bytes : List ℕ) → RightIn 0 (recordRefusal bytes)
 unfolding recordRefusal numberOf
-record-right bytes = search (checks, broken-right)
+record-right bytes = search (checks, content-right)
 
 pub written-right : (bytes : List ℕ) (room : ℕ) → RightIn 0 (writtenRefusal bytes room)
 unfolding writtenRefusal numberOf
@@ -243,7 +284,7 @@ count-right words bytes = search checks
 
 pub write-right : (ci : ℕ) (bytes : List ℕ) (room : ℕ) → RightIn 0 (writeRefusal ci bytes room)
 unfolding writeRefusal numberOf
-write-right ci bytes room = search (checks, broken-right) depth 8
+write-right ci bytes room = search (checks, content-right) depth 8
 
 head-right : {last : ℕ} (words : List ℕ) → RightIn last (headRefusal words)
 unfolding headRefusal numberOf
@@ -257,7 +298,7 @@ protected-right false guarded =
 
 body-right : (words : List ℕ) → RightIn 248 (bodyRefusal words)
 unfolding bodyRefusal numberOf
-body-right words = search (checks, protected-right, broken-right)
+body-right words = search (checks, protected-right, content-right)
 
 pub read-right : (words : List ℕ) → RightIn 248 (readRefusal words)
 unfolding readRefusal

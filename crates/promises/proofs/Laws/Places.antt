@@ -1,4 +1,4 @@
--- Demand 1: the place of a refusal is the item's first byte for 11 to 14, a data word's number for 7, else 0. Of each public call that can refuse, under its name, with its
+-- Demand 1: the place of a refusal is the item's first byte for 11 to 14, a data word's number for 7, a reserved byte's for 15, else 0. Of each public call that can refuse, under its name, with its
 -- crate's where two share one; and of the calls for C. `Learnt` is the contract as its caller may use it.
 -- Assumes nothing.
 use mathlib.Core.Path.{refl, _∙_}
@@ -242,7 +242,12 @@ unpack κs i a s p = rw (p .0, unpack-said) (unpack-right _ _)
 -- number 0 with place 0 where nothing is refused, else those of the refusal
 answer-right : {last : ℕ} (o : Option Refusal) → RightIn last o → RightPlace last (answerBy o .number) (answerBy o .place)
 unfolding answerBy
-answer-right none q = record { of-item = λ t. absurd (false≢true t); of-word = λ t. absurd (false≢true t); else-zero = λ f. refl }
+answer-right none q = record {
+  of-item = λ t. absurd (false≢true t);
+  of-word = λ t. absurd (false≢true t);
+  of-area = λ t. absurd (false≢true t);
+  else-zero = λ f. refl;
+}
 answer-right (some why) q = q .right why refl
 
 -- so are those of a struct that carries that answer

@@ -4,7 +4,7 @@
 use mathlib.Core.Path.{_≡_, refl, sym, ap, ap₂, _∙_}
 use mathlib.Core.Bool.{Bool, true, false}
 use mathlib.Core.List.{List}
-use mathlib.Core.Logic.{_↔_, Iff·trans}
+use mathlib.Core.Logic.{_↔_, Iff·trans, Iff·and}
 use mathlib.Core.Option.{Option, some}
 use Prim.Native.Nat.{ℕ, _-_, _≤_, _<_}
 use borrow.Author.Tests.{eq-eqb, ne-eqb, eqb-true, eqb-false}
@@ -67,9 +67,6 @@ same-answer t8 t9 u8 u9 = (
   λ (p, q). ap₂ soundnessBy p q,
 )
 
-both-ways : {A B C D : Type 0} → A ↔ C → B ↔ D → (A × B) ↔ (C × D)
-both-ways f g = (λ (a, b). (f .0 a, g .0 b), λ (c, d). (f .1 c, g .1 d))
-
 -- a test of two numbers passes exactly when they are equal
 is : (a b : ℕ) → (eqb a b ≡ true) ↔ (a ≡ b)
 is a b = (eqb-true a b, eq-eqb a b)
@@ -81,10 +78,10 @@ module _ (w : ℕ) where
   four : FourAnswers w (soundnessBy (b8Right w) (b9Right w))
   unfolding b8Right b9Right
   four = record {
-    sound = Iff·trans (same-answer (b8Right w) (b9Right w) true true) (both-ways (is (bit 8 w) (parityOf w)) (is (bit 9 w) (1 - parityOf w)));
-    b8 = Iff·trans (same-answer (b8Right w) (b9Right w) false true) (both-ways (is-not (bit 8 w) (parityOf w)) (is (bit 9 w) (1 - parityOf w)));
-    b9 = Iff·trans (same-answer (b8Right w) (b9Right w) true false) (both-ways (is (bit 8 w) (parityOf w)) (is-not (bit 9 w) (1 - parityOf w)));
-    both = Iff·trans (same-answer (b8Right w) (b9Right w) false false) (both-ways (is-not (bit 8 w) (parityOf w)) (is-not (bit 9 w) (1 - parityOf w)));
+    sound = Iff·trans (same-answer (b8Right w) (b9Right w) true true) (Iff·and (is (bit 8 w) (parityOf w)) (is (bit 9 w) (1 - parityOf w)));
+    b8 = Iff·trans (same-answer (b8Right w) (b9Right w) false true) (Iff·and (is-not (bit 8 w) (parityOf w)) (is (bit 9 w) (1 - parityOf w)));
+    b9 = Iff·trans (same-answer (b8Right w) (b9Right w) true false) (Iff·and (is (bit 8 w) (parityOf w)) (is-not (bit 9 w) (1 - parityOf w)));
+    both = Iff·trans (same-answer (b8Right w) (b9Right w) false false) (Iff·and (is-not (bit 8 w) (parityOf w)) (is-not (bit 9 w) (1 - parityOf w)));
   }
 
   module _ (a : Soundness) (C : ChecksWord w a) where

@@ -21,8 +21,7 @@ use Rattle.basics.proofs.Laws.Test.{both-true, lt-or-le}
 use Rattle.basics.proofs.Laws.Parts.{part-entries, same-cons, last-one}
 use Rattle.refusal.proofs.Laws.Chain.{require-passed, next-passed}
 use Rattle.rs.specs.Codeword.{parityOf, Codeword}
-use Rattle.record.specs.Record.{broken}
-use Rattle.items.specs.Items.{items}
+use Rattle.record.specs.Record.{contentRefusal}
 use Rattle.repair.specs.Protected.{repaired, rewritten}
 use Rattle.anc.specs.Words.{flag, lowBytes, soundWords, narrow}
 use Rattle.writing.specs.Layout.{headerWord, protectedWords, summedWords, packetWords}
@@ -44,7 +43,7 @@ pub record Accepted (ws : List ℕ) : Type 0 where
   pub zero-bits : word ws 6 / 16 % 8 ≡ 0
   pub guarded : protectedRefusal (correctionOf ws) (protectedOf ws) ≡ none
   pub sum : checksumOf (summedOf ws) ≡ word ws 261
-  pub rules : broken items (readBytes ws) ≡ none
+  pub rules : contentRefusal (readBytes ws) ≡ none
 
 pub accepted-parts : (ws : List ℕ) → readRefusal ws ≡ none → Accepted ws
 unfolding readRefusal headRefusal bodyRefusal

@@ -16,8 +16,7 @@ use Rattle.refusal.specs.declared.Refusal.{Refusal}
 use Rattle.refusal.specs.declared.Reason.the-variants.{Room}
 use Rattle.refusal.proofs.Laws.Chain.{require-passed, next-passed, told}
 use Rattle.rs.specs.Decode.{changes}
-use Rattle.record.specs.Record.{broken, recordOf, recordRefusal}
-use Rattle.items.specs.Items.{items}
+use Rattle.record.specs.Record.{contentRefusal, recordOf, recordRefusal}
 use Rattle.refusal.specs.Checked.{checkedOf, refusalIn as refusalInCheck}
 use Rattle.record.specs.Written.{writtenRefusal, written}
 use Rattle.refusal.specs.declared.Checked.{Checked}
@@ -32,7 +31,7 @@ use Rattle.reading.specs.declared.Reading.{Reading}
 use Rattle.reading.specs.declared.Reading.the-variants.{Accepted, Refused as RefusedReading}
 use Rattle.anc.proofs.Laws.Words.{low-words}
 use Rattle.repair.proofs.Laws.Repair.{repaired-bytes}
-use Rattle.record.proofs.Laws.Record.{rules-decide}
+use Rattle.record.proofs.Laws.Reserved.{content-decides}
 use Rattle.reading.proofs.Laws.Reader.{guardBytes-length}
 use Rattle.reading.proofs.Laws.Again.{accepted-parts, length-part}
 
@@ -55,10 +54,10 @@ pub data-guard : (ws : List ℕ) → take 248 (guardBytes (correctionOf ws) (pro
 unfolding guardBytes readBytes readWords
 data-guard ws = refl
 
-data-rules : (ws : List ℕ) → length ws ≡ 262 → recordRefusal (take 248 (guardBytes (correctionOf ws) (protectedOf ws))) ≡ broken items (readBytes ws)
+data-rules : (ws : List ℕ) → length ws ≡ 262 → recordRefusal (take 248 (guardBytes (correctionOf ws) (protectedOf ws))) ≡ contentRefusal (readBytes ws)
 data-rules ws n =
     let g : List ℕ = guardBytes (correctionOf ws) (protectedOf ws) in
-    rules-decide (take 248 g) (length-take-le 248 g (omega (arith, guardBytes-length (correctionOf ws) (protectedOf ws), length-part ws n))) ∙ ap (broken items) (data-guard ws)
+    content-decides (take 248 g) (length-take-le 248 g (omega (arith, guardBytes-length (correctionOf ws) (protectedOf ws), length-part ws n))) ∙ ap (contentRefusal) (data-guard ws)
 
 -- ---- behind the header
 

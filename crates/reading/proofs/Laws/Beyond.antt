@@ -1,6 +1,6 @@
 -- When reading refuses with 9, BEYOND REPAIR: with correction on exactly where no codeword is within reach, with correction off never.
 -- Assumes nothing.
-use mathlib.Core.Path.{_≡_}
+use mathlib.Core.Path.{_≡_, refl}
 use mathlib.Core.Bool.{true, false}
 use mathlib.Core.List.{List}
 use mathlib.Core.Logic.{_↔_, Iff·trans}
@@ -40,7 +40,7 @@ module _ (ws : List ℕ) (head : headRefusal ws ≡ none) (on : correctionOf ws 
   -- into any room
   pub into-beyond : (room : ℕ) → (readIntoRefusal ws room ≡ some (refusalPlain BeyondRepair)) ↔ (WithinReach (protectedOf ws) → ⊥)
   unfolding readIntoRefusal
-  into-beyond room = Iff·trans (next-gives (readRefusal ws) _ nine (not-nine (room-without 9 (lit< tt) room))) read-beyond
+  into-beyond room = Iff·trans (next-gives (readRefusal ws) _ nine (not-nine (room-without 9 refl room))) read-beyond
 
 -- ---- correction off
 
@@ -55,4 +55,4 @@ module _ (ws : List ℕ) (off : correctionOf ws ≡ false) where
 
   pub into-off : (room : ℕ) → Without 9 (readIntoRefusal ws room)
   unfolding readIntoRefusal
-  into-off room = search (without, read-off, room-without 9 (lit< tt))
+  into-off room = search (without, read-off, room-without 9 refl)

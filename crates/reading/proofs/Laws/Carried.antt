@@ -17,8 +17,7 @@ use Rattle.anc.specs.Word.{isSound, checksumOf}
 use Rattle.anc.specs.Words.{flag, hasFlag, lowBytes, narrow}
 use Rattle.anc.proofs.Laws.Checksum.{checksum-lt}
 use Rattle.anc.proofs.Laws.Words.{narrow-cons, narrow-append}
-use Rattle.record.specs.Record.{broken, recordOf}
-use Rattle.items.specs.Items.{items}
+use Rattle.record.specs.Record.{contentRefusal, recordOf}
 use Rattle.writing.specs.Layout.{headerWord, protectedWords, summedWords, carrying}
 use Rattle.writing.proofs.Laws.Layout.{protected-bytes, summed-shape, header-low, header-lt, header-sound, header-b7, header-zero, header-index}
 use Rattle.reading.specs.Reading.{correctionOf, indexOf, protectedOf, readWords, readBytes, summedOf, headRefusal, protectedRefusal, bodyRefusal, readRefusal, readRecord}
@@ -78,7 +77,7 @@ module _ (on : Bool) (ci : ℕ) (r q : List ℕ) (hc : ci ≤ 15) (nr : length r
         eq-eqb (checksumOf (summedOf ws)) (getD ws 261 0) (ap checksumOf e ∙ sym carried-last)
 
     -- once its protected words are read as they were written, the packet reads as what was written
-    pub reads : protectedRefusal (correctionOf ws) (protectedOf ws) ≡ none → broken items r ≡ none → Reads ws on ci r
+    pub reads : protectedRefusal (correctionOf ws) (protectedOf ws) ≡ none → contentRefusal r ≡ none → Reads ws on ci r
     reads e b = record { accepted = accepted; correction = carried-correction; index = carried-index; bytes = carried-bytes; rec = carried-record }
       where
         accepted : readRefusal ws ≡ none

@@ -12,9 +12,9 @@ use Rattle.anc.specs.Word.{checksumOf}
 use Rattle.refusal.specs.Chain.{require, passed}
 use Rattle.refusal.specs.Number.{numberOf, refusalPlain}
 use Rattle.refusal.specs.declared.Reason.the-variants.{Checksum, Room}
-use Rattle.refusal.proofs.Laws.Chain.{Without, without}
-use Rattle.record.specs.Record.{broken}
-use Rattle.record.proofs.Laws.Checks.{broken-without}
+use Rattle.refusal.proofs.Laws.Chain.{Without, without-passed, without-require, without}
+use Rattle.record.specs.Record.{contentRefusal}
+use Rattle.record.proofs.Laws.Reserved.{content-without}
 use Rattle.items.specs.Items.{items}
 use Rattle.reading.specs.Reading.{word, summedOf, readBytes, headRefusal}
 
@@ -30,18 +30,18 @@ pub head-without : (n : ℕ) → 6 < n → (ws : List ℕ) → Without n (headRe
 unfolding headRefusal numberOf
 head-without n h ws = search (without, up-to-six n h) depth 9
 
--- the rules of the items
-rules-without : (n : ℕ) → n < 10 → (bytes : List ℕ) → Without n (broken items bytes)
+-- what is in the bytes
+bytes-without : (n : ℕ) → n < 10 → (bytes : List ℕ) → Without n (contentRefusal bytes)
 unfolding items all numberOf
-rules-without n h bytes = broken-without n 10 h items bytes refl
+bytes-without n h bytes = content-without n (leb 10) (from-ten n h) bytes refl refl
 
--- the checksum, and then the rules
+-- the checksum, and then what is in the bytes
 pub tail-without : (n : ℕ) → n < 10 → (ws : List ℕ)
-    → Without n (require (eqb (checksumOf (summedOf ws)) (word ws 261)) (refusalPlain Checksum) (broken items (readBytes ws)))
+    → Without n (require (eqb (checksumOf (summedOf ws)) (word ws 261)) (refusalPlain Checksum) (contentRefusal (readBytes ws)))
 unfolding numberOf
-tail-without n h ws = search (without, rules-without n h, from-ten n h)
+tail-without n h ws = search (without, bytes-without n h, from-ten n h)
 
 -- the room
-pub room-without : (n : ℕ) → n < 10 → (room : ℕ) → Without n (require (eqb room 248) (refusalPlain Room) passed)
+pub room-without : (n : ℕ) → eqb 23 n ≡ false → (room : ℕ) → Without n (require (eqb room 248) (refusalPlain Room) passed)
 unfolding numberOf
-room-without n h room = search (without, from-ten n h)
+room-without n d room = without-require (eqb room 248) _ d without-passed

@@ -86,4 +86,4 @@ read-unsound ws (head, off) u =
 pub into-parity : (ws : List ℕ) (room : ℕ) (wrong : Wrong) (place : ℕ)
     → (readIntoRefusal ws room ≡ some (refusalAt (Parity wrong) place)) ↔ (readRefusal ws ≡ some (refusalAt (Parity wrong) place))
 unfolding readIntoRefusal
-into-parity ws room wrong place = next-gives (readRefusal ws) _ _ (not-seven wrong place (room-without 7 (lit< tt) room))
+into-parity ws room wrong place = next-gives (readRefusal ws) _ _ (not-seven wrong place (room-without 7 refl room))

@@ -16,8 +16,7 @@ use Rattle.rs.specs.Codeword.{parityOf}
 use Rattle.basics.specs.Below.{Bytes}
 use Rattle.rs.specs.Decode.{changes}
 use Rattle.rs.proofs.Laws.Distance.{changes-self}
-use Rattle.record.specs.Record.{broken}
-use Rattle.items.specs.Items.{items}
+use Rattle.record.specs.Record.{contentRefusal}
 use Rattle.anc.specs.Words.{soundWords, narrow}
 use Rattle.writing.specs.Layout.{protectedWords, packetWords, carrying}
 use Rattle.reading.specs.Reading.{correctionOf, protectedOf, readWords, readFixed, isFill, protectedRefusal}
@@ -55,7 +54,7 @@ module _ (ci : ℕ) (r q : List ℕ) (hc : ci ≤ 15) (nr : length r ≡ 248) (b
   unfolding readWords
   words = simp (on, protected) (mend .recovered ∙ sym (protected-on r))
 
-  pub damaged-reads : broken items r ≡ none → Reads ws true ci r
+  pub damaged-reads : contentRefusal r ≡ none → Reads ws true ci r
   damaged-reads b = reads true ci r q hc nr br nq wq words passes b
 
   pub damaged-fixed : readFixed ws ≡ changes q (protectedWords true r)
@@ -108,7 +107,7 @@ written-damage r nr br =
     few-damage (protectedWords true r) (protectedWords true r) refl (protected-sound r nr br) (omega (arith, changes-self (protectedWords true r)))
 
 -- a packet as it was written reads as its record, index and correction bit, with nothing fixed
-pub written-reads : (on : Bool) (ci : ℕ) (r : List ℕ) → ci ≤ 15 → length r ≡ 248 → Bytes r → broken items r ≡ none → Reads (packetWords on ci r) on ci r
+pub written-reads : (on : Bool) (ci : ℕ) (r : List ℕ) → ci ≤ 15 → length r ≡ 248 → Bytes r → contentRefusal r ≡ none → Reads (packetWords on ci r) on ci r
 written-reads true ci r hc nr br b =
     rw packet-carries
     (damaged-reads ci r (protectedWords true r) hc nr br (length-protected true r nr) (protected-narrow true r br) (written-damage r nr br) b)
@@ -124,7 +123,7 @@ written-fixed true ci r hc nr br =
 written-fixed false ci r hc nr br = rw packet-carries (off-fixed ci r hc nr br)
 
 -- which is the packet that is told
-pub written-packet : (on : Bool) (ci : ℕ) (r : List ℕ) → ci ≤ 15 → length r ≡ 248 → Bytes r → broken items r ≡ none
+pub written-packet : (on : Bool) (ci : ℕ) (r : List ℕ) → ci ≤ 15 → length r ≡ 248 → Bytes r → contentRefusal r ≡ none
     → packetOf (packetWords on ci r) ≡ record { correction = on; ci = ci; fixed = 0 }
 unfolding packetOf
 written-packet on ci r hc nr br b =

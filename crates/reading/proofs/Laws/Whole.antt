@@ -19,6 +19,8 @@ use Rattle.anc.specs.Words.{lowBytes}
 use Rattle.writing.specs.Layout.{packetWords}
 use Rattle.reading.specs.Reading.{correctionOf, indexOf, protectedOf, readWords, readBytes, readRecord, readRefusal, readFixed, protectedRefusal, Clean, rewrittenPacket}
 use Rattle.record.proofs.Laws.Record.{record-bytes}
+use Rattle.record.specs.Reserved.{reservedArea}
+use Rattle.record.proofs.Laws.Record.{record-keeps}
 use Rattle.record.proofs.Laws.Stored.{CleanRecord, record-clean}
 use Rattle.anc.proofs.Laws.Words.{low-bytes, lowBytes-length, soundWords-length}
 use Rattle.reading.proofs.Laws.RoundTrip.{written-reads, written-fixed}
@@ -44,7 +46,12 @@ pub read-bytes : (ws : List ℕ) → Bytes (readBytes ws)
 unfolding readBytes
 read-bytes ws = take-below 256 248 (lowBytes (readWords ws)) (low-bytes (readWords ws))
 
--- the record that is read keeps the rules, and is its own record
+-- the record that is read has in the reserved area what was there
+pub read-reserved : (ws : List ℕ) → readRefusal ws ≡ none → reservedArea (readRecord ws) ≡ reservedArea (readBytes ws)
+unfolding readRecord
+read-reserved ws e = record-keeps (readBytes ws) (read-length ws e) (accepted-parts ws e .rules)
+
+-- nothing in it is refused, and it is its own record
 pub read-clean : (ws : List ℕ) → readRefusal ws ≡ none → CleanRecord (readRecord ws)
 unfolding readRecord
 read-clean ws e = record-clean (readBytes ws) (read-length ws e) (accepted-parts ws e .rules)

@@ -1,13 +1,13 @@
 -- The checks of 248 bytes, one after the other, and which numbers they do not refuse with.
 -- Assumes nothing.
 use mathlib.Core.Path.{_≡_, refl}
-use mathlib.Core.Bool.{true}
+use mathlib.Core.Bool.{Bool, true, false}
 use mathlib.Core.List.{List, [], _∷_, map}
-use Prim.Native.Nat.{ℕ, _<_}
+use Prim.Native.Nat.{ℕ}
 use native.Mathlib.Omega.{arith}
-use lib.Dec.{leb}
+use lib.Dec.{eqb}
 use lib.ListN.{length, getD, take, drop}
-use borrow.Author.Tests.{eqb-true, ne-eqb, leb-true}
+use borrow.Author.Tests.{eqb-true}
 use Rattle.basics.specs.Each.{all}
 use Rattle.basics.proofs.Laws.Test.{both-true}
 use Rattle.refusal.proofs.Laws.Chain.{require-passed, Without, without-passed, without-require, told}
@@ -39,24 +39,22 @@ pub broken-items : (bytes : List ℕ) → broken items bytes ≡
 unfolding broken items part
 broken-items bytes = refl
 
-pub six-checks : (bytes : List ℕ) → length bytes ≡ 248 → recordRefusal bytes ≡
+pub six-checks : (bytes : List ℕ) → length bytes ≡ 248 → broken items bytes ≡
     require (stationRule (take 8 bytes)) (refusalAt Station 1)
     (require (timeRule (take 9 (drop 8 bytes))) (refusalAt Time 9)
     (require (pictureRule (take 4 (drop 17 bytes))) (refusalAt Picture 18)
     (require (pictureRule (take 4 (drop 21 bytes))) (refusalAt Picture 22)
     (require (soundByte (getD bytes 26 0)) (refusalAt Sound 27)
     (require (soundByte (getD bytes 27 0)) (refusalAt Sound 28) passed)))))
-unfolding recordRefusal
-six-checks bytes h = rw (h, broken-items, sound-part bytes 26 (omega arith), sound-part bytes 27 (omega arith))
+six-checks bytes h = rw (broken-items, sound-part bytes 26 (omega arith), sound-part bytes 27 (omega arith))
 
 -- ---- a number that they do not refuse with
 
--- n, below a bound that is below none of the rows' numbers
-pub broken-without : (n bound : ℕ) → n < bound → (is : List Row) (bytes : List ℕ) → all (λ m. leb bound m) (map (λ i. numberOf (i .reason)) is) ≡ true
-    → Without n (broken is bytes)
+-- n, which fails a test that all the rows' numbers pass
+pub broken-without : (n : ℕ) (f : ℕ → Bool) → ((m : ℕ) → f m ≡ true → eqb m n ≡ false)
+    → (is : List Row) (bytes : List ℕ) → all f (map (λ i. numberOf (i .reason)) is) ≡ true → Without n (broken is bytes)
 unfolding broken all
-broken-without n bound h [] bytes a = without-passed
-broken-without n bound h (i ∷ is) bytes a =
-    let b = both-true (leb bound (numberOf (i .reason))) _ a in
-    let m : ℕ = numberOf (i .reason) in
-    without-require (i .rule (part i bytes)) _ (ne-eqb m n (λ e. omega (arith, leb-true bound m (b .0)))) (broken-without n bound h is bytes (b .1))
+broken-without n f apart [] bytes a = without-passed
+broken-without n f apart (i ∷ is) bytes a =
+    let b = both-true (f (numberOf (i .reason))) _ a in
+    without-require (i .rule (part i bytes)) _ (apart _ (b .0)) (broken-without n f apart is bytes (b .1))

@@ -1,5 +1,5 @@
 -- The record of 248 bytes: the runs that it is made of, what stands at each place of it, that it is a record itself and is refused for
--- the same, and how it is written over the bytes.
+-- the same but for the reserved area, and how it is written over the bytes.
 -- Assumes nothing.
 use mathlib.Core.Path.{_≡_, refl, sym, ap, _∙_}
 use mathlib.Core.List.{List, [], _++_, append-nil, append-assoc}
@@ -8,12 +8,13 @@ use Prim.Native.Nat.{ℕ, _+_, _<_}
 use native.Mathlib.Nat.{zero-add}
 use native.Mathlib.Omega.{arith}
 use lib.ListN.{length, getD, take, drop, replicate, length-append, length-drop, getD-replicate, take-append-drop}
-use lib.Seq.{length-take-le, take-at, drop-at, drop-drop, getD-take, getD-drop}
+use lib.Seq.{length-take-le, take-at, drop-at, drop-drop, getD-drop}
 use lib.Dec.{lit<}
-use borrow.Author.Tests.{eq-eqb, ne-eqb}
+use borrow.Author.Tests.{ne-eqb}
 use borrow.Rule.Slice.PartMut.{putMid}
 use Rattle.rules.specs.Rules.{pictureClean}
-use Rattle.record.specs.Record.{cleaned, recordOf, broken, recordRefusal}
+use Rattle.record.specs.Reserved.{reservedArea}
+use Rattle.record.specs.Record.{cleaned, recordOf, broken, contentRefusal, recordRefusal}
 use Rattle.items.specs.Items.{items, part}
 use Rattle.record.specs.Written.{writtenRefusal, written}
 use Rattle.refusal.specs.Checked.{checkedOf}
@@ -24,6 +25,7 @@ use Rattle.basics.specs.Below.{Bytes}
 use Rattle.basics.proofs.Laws.Below.{entry-below, append-below, take-below, drop-below, replicate-below}
 use Rattle.basics.proofs.Laws.Parts.{run-length, join, skip, part-same, entry-same, over}
 use Rattle.record.proofs.Laws.Checks.{six-checks}
+use Rattle.record.proofs.Laws.Reserved.{area-at, zero-content, content-zero, content-decides}
 use Rattle.rules.proofs.Laws.Clean.{clean-length, clean-bytes, clean-again, clean-rule}
 
 -- ---- six runs: up to the picture modes, the two modes, from there to the reserved area, that, and the private area
@@ -116,7 +118,8 @@ module _ (bytes : List ℕ) (h : length bytes ≡ 248) where
   record-middle = record-in-runs .middle
 
   -- the reserved area is zero
-  pub record-reserved : take 64 (drop 43 (recordOf bytes)) ≡ replicate 64 0
+  pub record-reserved : reservedArea (recordOf bytes) ≡ replicate 64 0
+  unfolding reservedArea
   record-reserved = record-in-runs .reserved
 
   -- the private area is the bytes
@@ -134,13 +137,12 @@ module _ (bytes : List ℕ) (h : length bytes ≡ 248) where
   record-at-middle i k = entry-same (recordOf bytes) bytes 25 18 i record-middle k
 
   pub record-at-reserved : (i : ℕ) → i < 64 → getD (recordOf bytes) (43 + i) 0 ≡ 0
-  record-at-reserved i k =
-      sym (getD-drop 43 (recordOf bytes) i 0) ∙ sym (getD-take 64 (drop 43 (recordOf bytes)) i 0 k) ∙ ap (λ (l : List ℕ). getD l i 0) record-reserved ∙ getD-replicate 64 i 0 0 k
+  record-at-reserved i k = sym (area-at (recordOf bytes) i k) ∙ ap (λ (l : List ℕ). getD l i 0) record-reserved ∙ getD-replicate 64 i 0 0 k
 
   pub record-at-private : (i : ℕ) → getD (recordOf bytes) (107 + i) 0 ≡ getD bytes (107 + i) 0
   record-at-private i = sym (getD-drop 107 (recordOf bytes) i 0) ∙ ap (λ (l : List ℕ). getD l i 0) record-private ∙ getD-drop 107 bytes i 0
 
-  -- ---- the record of a record is itself, and is refused for the same
+  -- ---- the record of a record is itself, and is refused for its items as the bytes are; never for its reserved area
 
   pub record-idem : recordOf (recordOf bytes) ≡ recordOf bytes
   record-idem =
@@ -148,8 +150,8 @@ module _ (bytes : List ℕ) (h : length bytes ≡ 248) where
       ∙ rw (record-front, record-current, record-next, record-middle, record-private, clean-again (take 4 (drop 17 bytes)), clean-again (take 4 (drop 21 bytes)))
       (sym (record-runs bytes))
 
-  pub record-refusal : recordRefusal (recordOf bytes) ≡ recordRefusal bytes
-  record-refusal =
+  pub record-rules : broken items (recordOf bytes) ≡ broken items bytes
+  record-rules =
       let station : take 8 (recordOf bytes) ≡ take 8 bytes = part-same (recordOf bytes) bytes 0 17 0 8 record-front (omega arith) in
       let time : take 9 (drop 8 (recordOf bytes)) ≡ take 9 (drop 8 bytes) = part-same (recordOf bytes) bytes 0 17 8 9 record-front (omega arith) in
       let current : getD (recordOf bytes) 26 0 ≡ getD bytes 26 0 = record-at-middle 1 (omega arith) in
@@ -158,14 +160,16 @@ module _ (bytes : List ℕ) (h : length bytes ≡ 248) where
       ∙ rw (station, time, record-current, record-next, clean-rule (take 4 (drop 17 bytes)), clean-rule (take 4 (drop 21 bytes)), current, next)
       (sym (six-checks bytes h))
 
--- with 248 bytes the rules decide
-pub rules-decide : (bytes : List ℕ) → length bytes ≡ 248 → recordRefusal bytes ≡ broken items bytes
-unfolding recordRefusal
-rules-decide bytes n = simp (eq-eqb (length bytes) 248 n)
+  pub record-content : contentRefusal (recordOf bytes) ≡ broken items bytes
+  record-content = zero-content (recordOf bytes) record-reserved ∙ record-rules
 
--- the record breaks the rules that the bytes break
-pub record-rules : (bytes : List ℕ) → length bytes ≡ 248 → broken items (recordOf bytes) ≡ broken items bytes
-record-rules bytes n = sym (rules-decide (recordOf bytes) (record-length bytes n)) ∙ record-refusal bytes n ∙ rules-decide bytes n
+  pub record-refusal : recordRefusal (recordOf bytes) ≡ broken items bytes
+  record-refusal = content-decides (recordOf bytes) record-length ∙ record-content
+
+  -- ---- nothing of the reserved area is lost in the record of bytes that are not refused
+
+  pub record-keeps : contentRefusal bytes ≡ none → reservedArea (recordOf bytes) ≡ reservedArea bytes
+  record-keeps e = record-reserved ∙ sym (content-zero bytes h e)
 
 -- ---- its entries are bytes
 

@@ -22,7 +22,8 @@ use Rattle.basics.specs.Below.{Bytes}
 use Rattle.basics.proofs.Laws.Below.{entry-below, append-below, take-below, drop-below}
 use Rattle.basics.proofs.Laws.Test.{both-left, both-right}
 use Rattle.rules.specs.Rules.{pictureRule, pictureClean}
-use Rattle.record.specs.Record.{recordOf, broken, bytesOn}
+use Rattle.record.specs.Reserved.{reservedArea}
+use Rattle.record.specs.Record.{recordOf, broken, contentRefusal, bytesOn}
 use Rattle.items.specs.Items.{Row, items, part}
 use Rattle.items.specs.declared.ItemPlace.{ItemPlace}
 use Rattle.items.specs.Item.{rowOf, refusedIn, itemRefusal, placeIn, placeOf, put, cleanIn, cleanOf, partIn, itemPart, putIn, putItem}
@@ -30,9 +31,10 @@ use Rattle.record.specs.Stored.{itemLent, itemStart, putRefusedIn, putRe
 use Rattle.refusal.specs.Checked.{checkedOf}
 use Rattle.refusal.specs.declared.Checked.{Checked}
 use Rattle.refusal.specs.declared.Checked.the-variants.{Passed, Refused}
+use Rattle.record.proofs.Laws.Reserved.{zero-content, content-rules}
 use Rattle.record.proofs.Laws.Put.{put-length, put-before, put-there, put-behind, put-back, before, behind}
 use Rattle.rules.proofs.Laws.Clean.{clean-length, clean-bytes, clean-again, clean-rule}
-use Rattle.record.proofs.Laws.Record.{runs, record-runs, record-length, record-idem, record-rules, record-current, record-next, record-reserved}
+use Rattle.record.proofs.Laws.Record.{runs, record-runs, record-length, record-idem, record-content, record-current, record-next, record-reserved}
 
 -- ---- what is so of each row of a table
 
@@ -267,16 +269,16 @@ each-kept r (i ∷ is) b c =
     let p = require-passed (i .rule (part i r)) _ (broken is r) b in
     (record { rule = p .0; clean = c .0 }, each-kept r is (p .1) (c .1))
 
--- ---- a clean record: it keeps the rules, and is its own record
+-- ---- a clean record: nothing in it is refused, and it is its own record
 
 pub record CleanRecord (r : List ℕ) : Type 0 where
   pub long : length r ≡ 248
-  pub rules : broken items r ≡ none
+  pub rules : contentRefusal r ≡ none
   pub own : recordOf r ≡ r
 
--- the record of bytes that keep the rules
-pub record-clean : (bytes : List ℕ) → length bytes ≡ 248 → broken items bytes ≡ none → CleanRecord (recordOf bytes)
-record-clean bytes n b = record { long = record-length bytes n; rules = record-rules bytes n ∙ b; own = record-idem bytes n }
+-- the record of bytes that are not refused
+pub record-clean : (bytes : List ℕ) → length bytes ≡ 248 → contentRefusal bytes ≡ none → CleanRecord (recordOf bytes)
+record-clean bytes n b = record { long = record-length bytes n; rules = record-content bytes n ∙ content-rules bytes b; own = record-idem bytes n }
 
 seam : (l : List ℕ) (s n : ℕ) → take n (drop s l) ++ drop (s + n) l ≡ drop s l
 seam l s n = rw (← drop-drop n s l) (take-append-drop n (drop s l))
@@ -294,13 +296,18 @@ module _ (r : List ℕ) (h : length r ≡ 248) where
       let next : take 4 (drop 21 r) ≡ pictureClean (take 4 (drop 21 r)) = ap (λ (l : List ℕ). take 4 (drop 21 l)) (sym e) ∙ record-next r h in
       (refl, (refl, (sym current, (sym next, (refl, (refl, (refl, (refl, (refl, (refl, (refl, (refl, tt))))))))))))
 
-  own-reserved : recordOf r ≡ r → take 64 (drop 43 r) ≡ replicate 64 0
-  own-reserved e = ap (λ (l : List ℕ). take 64 (drop 43 l)) (sym e) ∙ record-reserved r h
+  own-reserved : recordOf r ≡ r → reservedArea r ≡ replicate 64 0
+  own-reserved e = ap reservedArea (sym e) ∙ record-reserved r h
 
   -- and so it is its own record
-  own-by : Each (Kept r) items → take 64 (drop 43 r) ≡ replicate 64 0 → recordOf r ≡ r
-  unfolding items part
+  own-by : Each (Kept r) items → reservedArea r ≡ replicate 64 0 → recordOf r ≡ r
+  unfolding items part reservedArea
   own-by k z = record-runs r ∙ rejoin r _ _ _ (k .1 .1 .0 .clean) (k .1 .1 .1 .0 .clean) (sym z)
+
+-- bytes put before the reserved area leave it as it is
+put-reserved : (r new : List ℕ) (at : ℕ) → at + length new ≤ length r → at + length new ≤ 43 → reservedArea (put r at new) ≡ reservedArea r
+unfolding reservedArea
+put-reserved r new at fits h = behind (put r at new) r (at + length new) 43 64 (put-behind r new at fits) h
 
 -- bytes that keep an item's rule, with nothing left to set to zero, put into its place in a clean record
 clean-put : (r new : List ℕ) (n : ℕ) (i : Row) → rowOf n items ≡ some i → Sits i → length new ≡ i .long → i .rule new ≡ true → i .clean new ≡ new
@@ -309,12 +316,12 @@ clean-put r new n i e s l good settled c =
     let fits : end i ≤ length r = omega (arith, s .inside, c .long) in
     let at : start i + length new ≤ length r = omega arith in
     let long : length (put r (start i) new) ≡ 248 = put-length r new (start i) at ∙ c .long in
-    let k = kept-put r new n i l fits good settled items items-apart e (each-kept r items (c .rules) (own-items r (c .long) (c .own))) in
-    let z = behind (put r (start i) new) r (start i + length new) 43 64 (put-behind r new (start i) at) (omega (arith, s .inside)) in
+    let k = kept-put r new n i l fits good settled items items-apart e (each-kept r items (content-rules r (c .rules)) (own-items r (c .long) (c .own))) in
+    let z = put-reserved r new (start i) at (omega (arith, s .inside)) ∙ own-reserved r (c .long) (c .own) in
     record {
       long = long;
-      rules = rules-kept (put r (start i) new) items k;
-      own = own-by (put r (start i) new) long k (z ∙ own-reserved r (c .long) (c .own));
+      rules = zero-content (put r (start i) new) z ∙ rules-kept (put r (start i) new) items k;
+      own = own-by (put r (start i) new) long k z;
     }
 
 -- ---- the same by an item's number

@@ -1,14 +1,16 @@
--- `record::record_refusal` meets its contract: the checks that follow one another by `then` are those of the definition, in its order.
+-- `record::record_refusal` meets its contract: the number of bytes, then what its two parts answer, one behind the other.
 -- Assumes nothing.
-use mathlib.Core.Path.{ap, _∙_}
-use borrow.Author.Tests.{ne-eqb}
-use Rattle.refusal.specs.Number.{refusalAt}
-use Rattle.refusal.specs.declared.Reason.the-variants.{Station, Time, Picture, Sound}
-use Rattle.refusal.proofs.Laws.Chain.{chained-none, chained-more, chained-all}
-use Rattle.rules.specs.Rules.{timeRule, pictureRule}
-use Rattle.record.specs.Record.{recordRefusal}
-use Rattle.record.proofs.Laws.Checks.{six-checks}
+use mathlib.Core.Path.{sym, ap, _∙_}
+use mathlib.Core.List.{List}
+use Prim.Native.Nat.{ℕ}
 use borrow.Author.Needs.{needs}
+use borrow.Author.Tests.{ne-eqb}
+use Rattle.refusal.specs.Checked.{checkedOf}
+use Rattle.refusal.proofs.Laws.Chain.{chained-from, chained-last}
+use Rattle.items.specs.Items.{items}
+use Rattle.record.specs.Reserved.{reservedArea, reservedRefusal}
+use Rattle.record.specs.Record.{broken, contentRefusal, recordRefusal}
+use Rattle.record.proofs.Laws.Reserved.{content-decides}
 use Rattle.record.proofs.record_refusal.Statement.{statement}
 use Rattle.record.proofs.record_refusal.Tie as tie
 
@@ -17,23 +19,14 @@ unfolding recordRefusal
 returns c = simp (ne-eqb _ _ (c .before .if1 .taken)) (rw (c .plain .ensures))
 
 returns-2 : tie.Need-returns-2
+unfolding contentRefusal reservedRefusal reservedArea
 returns-2 c =
-    let t5 = c .before .before in
-    let t4 = t5 .before .before in
-    let t3 = t4 .before in
-    let t2 = t3 .before in
-    let t1 = t2 .before in
-    let p2 = t1 .before .before .before .before .before in
-    let p1 = p2 .before .before .before in
-    let w = p1 .before .before .before in
-    let e = w .before .before .before in
-    let c1 = chained-more (refusalAt Station 1) chained-none (t1 .then .ensures) (t1 .before .station .ensures) in
-    let c2 = chained-more (refusalAt Time 9) c1 (t2 .then2 .ensures) (w .time .ensures ∙ ap timeRule (w .before .nine .ensures)) in
-    let c3 = chained-more (refusalAt Picture 18) c2 (t3 .then3 .ensures) (p1 .picture .ensures ∙ ap pictureRule (p1 .before .four .ensures)) in
-    let c4 = chained-more (refusalAt Picture 22) c3 (t4 .then4 .ensures) (p2 .picture2 .ensures ∙ ap pictureRule (p2 .before .four2 .ensures)) in
-    let c5 = chained-more (refusalAt Sound 27) c4 (t5 .then5 .ensures) (t5 .before .sound-byte .ensures) in
-    let c6 = chained-more (refusalAt Sound 28) c5 (c .then6 .ensures) (c .before .sound-byte2 .ensures) in
-    rw (six-checks (e .before .before .args .bytes .now) (e .if1 .left)) (chained-all c6)
+    let b = c .before in
+    let u = b .before in
+    let e = u .before .before in
+    let bytes : List ℕ = e .before .before .args .bytes .now in
+    chained-last (broken items bytes) (chained-from (reservedRefusal bytes) (u .first-used .ensures)) (b .first-broken .ensures) (c .next .ensures)
+    ∙ sym (ap checkedOf (content-decides bytes (e .if1 .left)))
 
 pub record-refusal-spec : {M : Type 1} → statement M
 record-refusal-spec =
@@ -44,29 +37,6 @@ record-refusal-spec =
     (λ c. search needs)
     (λ c. search needs)
     (λ c. search needs)
-    (λ c κs. search needs)
-    (λ c κs. search needs)
-    (λ c. search needs)
-    (λ c. search needs)
-    (λ c. search needs)
-    (λ c κs. search needs)
-    (λ c κs. search needs)
-    (λ c. search needs)
-    (λ c. search needs)
-    (λ c. search needs)
-    (λ c κs. search needs)
-    (λ c κs. search needs)
-    (λ c. search needs)
-    (λ c. search needs)
-    (λ c. search needs)
-    (λ c. search needs)
-    (λ c. search needs)
-    (λ c κs. search needs)
-    (λ c κs. search needs)
-    (λ c κs. search needs)
-    (λ c κs. search needs)
-    (λ c κs. search needs)
-    (λ c κs. search needs)
     (λ c κs. search needs)
     (λ c κs. search needs)
     (λ c κs. search needs)

@@ -39,6 +39,15 @@ pub next-gives : (first rest : Option Refusal) (why : Refusal) → (rest ≡ som
 next-gives none rest why n = (λ e. absurd (n e), λ e. absurd (passed-other why e))
 next-gives (some no′) rest why n = (λ e. e, λ e. e)
 
+-- where the first checks do not, those behind them give it exactly when the first pass
+pub next-behind : (first rest : Option Refusal) (why : Refusal) → (first ≡ some why → ⊥) → (next first rest ≡ some why) ↔ ((first ≡ none) × (rest ≡ some why))
+next-behind none rest why n = (λ e. (refl, e), λ (p, e). e)
+next-behind (some no′) rest why n = (λ e. absurd (n e), λ (p, e). absurd (Option·some-ne-none no′ p))
+
+pub require-behind : (t : Bool) (w why : Refusal) (rest : Option Refusal) → (w ≡ why → ⊥) → (require t w rest ≡ some why) ↔ ((t ≡ true) × (rest ≡ some why))
+require-behind true w why rest n = (λ e. (refl, e), λ (p, e). e)
+require-behind false w why rest n = (λ e. absurd (n cc), λ (p, e). absurd (false≢true p))
+
 -- a check that fails does so whatever follows it
 pub require-refused : (t : Bool) (w why : Refusal) (rest : Option Refusal) → require t w passed ≡ some why → require t w rest ≡ some why
 require-refused true w why rest e = absurd (Option·some-ne-none why (sym e))
@@ -66,6 +75,10 @@ without-next (some why) p q = p
 
 -- a chain is worked through by these, check by check
 pub ruleset without = (without-passed, without-refused, without-require, without-next)
+
+-- two refusals with different numbers are not the same
+pub other-number : (w why : Refusal) → eqb (numberOf (w .reason)) (numberOf (why .reason)) ≡ false → w ≡ why → ⊥
+other-number w why d e = false≢true (sym d ∙ eq-eqb _ _ (ap (λ (r : Refusal). numberOf (r .reason)) e))
 
 -- a refusal with that number is not what it gives
 pub never-gives : {o : Option Refusal} (why : Refusal) → Without (numberOf (why .reason)) o → o ≡ some why → ⊥
@@ -141,3 +154,8 @@ answer-all (Refused why) = refl
 -- all of them: the answer is that of the chain
 pub chained-all : {answer : Checked} {chain : Option Refusal → Option Refusal} → Chained answer chain → answer ≡ checkedOf (chain passed)
 chained-all {answer} c = answer-all answer ∙ ap checkedOf (c .behind passed)
+
+-- and so with the checks of a further call behind it
+pub chained-last : {answer last whole : Checked} {chain : Option Refusal → Option Refusal} (o : Option Refusal) → Chained answer chain → last ≡ checkedOf o
+    → whole ≡ checkedOf (next (refusalIn answer) (refusalIn last)) → whole ≡ checkedOf (chain o)
+chained-last {answer} o c l e = e ∙ ap (λ (p : Option Refusal). checkedOf (next (refusalIn answer) p)) (ap refusalIn l ∙ refusal-in o) ∙ ap checkedOf (c .behind o)

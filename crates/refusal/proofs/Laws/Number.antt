@@ -10,11 +10,11 @@ use Rattle.refusal.specs.Number.{numberOf, bitsOf, bitsIn, fixedList}
 use Rattle.refusal.specs.declared.Wrong.{Wrong}
 use Rattle.refusal.specs.declared.Wrong.the-variants.{B8, B9, Both}
 use Rattle.refusal.specs.declared.Reason.{Reason}
-use Rattle.refusal.specs.declared.Reason.the-variants.{Length, Wide, Flag, Kind, Count, Header, Parity, Fill, BeyondRepair, Checksum, Station, Time, Picture, Sound, Item, Size, NothingToUndo, Room, BrokenDesk, FieldLength, FieldHead, Index}
+use Rattle.refusal.specs.declared.Reason.the-variants.{Length, Wide, Flag, Kind, Count, Header, Parity, Fill, BeyondRepair, Checksum, Station, Time, Picture, Sound, ReservedArea, Item, Size, NothingToUndo, Room, BrokenDesk, FieldLength, FieldHead, Index}
 
 -- the reasons, in the order of the fixed list, where this is wrong with the word of 7
 unfoldable pub reasons : Wrong → List Reason
-reasons wrong = Length ∷ Wide ∷ Flag ∷ Kind ∷ Count ∷ Header ∷ Parity wrong ∷ Fill ∷ BeyondRepair ∷ Checksum ∷ Station ∷ Time ∷ Picture ∷ Sound ∷ Item ∷ Size ∷ NothingToUndo ∷ Room ∷ BrokenDesk ∷ FieldLength ∷ FieldHead ∷ Index ∷ []
+reasons wrong = Length ∷ Wide ∷ Flag ∷ Kind ∷ Count ∷ Header ∷ Parity wrong ∷ Fill ∷ BeyondRepair ∷ Checksum ∷ Station ∷ Time ∷ Picture ∷ Sound ∷ ReservedArea ∷ Item ∷ Size ∷ NothingToUndo ∷ Room ∷ BrokenDesk ∷ FieldLength ∷ FieldHead ∷ Index ∷ []
 
 -- the fixed list is the numbers of the reasons, in order, and holds nothing else
 pub list-of-reasons : (wrong : Wrong) → fixedList ≡ map numberOf (reasons wrong)
@@ -71,6 +71,7 @@ at-each =
       | Time ↦ (tt, refl, refl, tt)
       | Picture ↦ (tt, refl, refl, tt)
       | Sound ↦ (tt, refl, refl, tt)
+      | ReservedArea ↦ (tt, refl, refl, tt)
       | Item ↦ (tt, refl, refl, tt)
       | Size ↦ (tt, refl, refl, tt)
       | NothingToUndo ↦ (tt, refl, refl, tt)

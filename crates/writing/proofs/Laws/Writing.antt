@@ -4,26 +4,29 @@
 use mathlib.Core.Path.{_≡_, refl, sym, ap, ap₂, _∙_}
 use mathlib.Core.Bool.{Bool, cond}
 use mathlib.Core.List.{List, [], _∷_, _++_, append-assoc, append-nil}
+use mathlib.Core.Logic.{_↔_, Iff·trans, Iff·and}
 use mathlib.Core.Option.{Option, none, some}
 use Prim.Native.Nat.{ℕ, _+_, _≤_, _<_}
 use native.Mathlib.Omega.{arith}
 use borrow.Author.Tests.{eq-eqb, ne-eqb, eqb-true, le-leb, lt-leb, leb-true}
 use borrow.Rule.Slice.PartMut.{putMid}
+use lib.Dec.{eqb, leb}
 use lib.ListN.{length, getD, set, take, drop, replicate, length-append, drop-of-length-le}
 use lib.Seq.{sets, sets-eq, set-at, take-at, drop-at, drop-drop}
 use Rattle.anc.specs.Word.{checksumOf}
-use Rattle.refusal.specs.Number.{refusalPlain}
-use Rattle.refusal.specs.declared.Reason.the-variants.{Size, Index, Room}
+use Rattle.refusal.specs.Number.{numberOf, refusalAt, refusalPlain}
+use Rattle.refusal.specs.declared.Reason.the-variants.{ReservedArea, Size, Index, Room}
 use Rattle.refusal.specs.declared.Refusal.{Refusal}
 use Rattle.rs.specs.Codeword.{parityOf}
 use Rattle.refusal.specs.declared.Checked.{Checked}
 use Rattle.refusal.specs.declared.Checked.the-variants.{Passed, Refused as Broken}
 use Rattle.refusal.specs.Checked.{checkedOf, refusalIn as refusalInCheck}
-use Rattle.record.specs.Record.{broken, recordOf, recordRefusal}
-use Rattle.items.specs.Items.{items}
+use Rattle.record.specs.Reserved.{FirstUsed}
+use Rattle.record.specs.Record.{contentRefusal, recordOf, recordRefusal}
 use Rattle.record.specs.Written.{written}
-use Rattle.record.proofs.Laws.Record.{record-fits, rules-decide}
-use Rattle.refusal.proofs.Laws.Chain.{require-passed, next-passed, told}
+use Rattle.record.proofs.Laws.Reserved.{content-decides, content-first}
+use Rattle.record.proofs.Laws.Record.{record-fits}
+use Rattle.refusal.proofs.Laws.Chain.{require-passed, next-passed, require-behind, next-gives, other-number, without, never-gives, told}
 use Rattle.basics.proofs.Laws.Parts.{over, last-one}
 use Rattle.writing.specs.declared.Written.{Written}
 use Rattle.writing.specs.declared.Written.the-variants.{Done, Refused}
@@ -125,16 +128,16 @@ module _ (on : Bool) (ci : ℕ) (bytes old : List ℕ) where
   wrong-index n i = answer (some (refusalPlain Index)) (simp (eq-eqb (length bytes) 248 n, lt-leb ci 15 i))
 
   module _ (said : Checked) (n : length bytes ≡ 248) (i : ci ≤ 15) (e : said ≡ checkedOf (recordRefusal bytes)) where
-    -- what the check of 248 bytes answers is what their rules give
-    rules-said : (a : Checked) → said ≡ a → broken items bytes ≡ refusalInCheck a
-    rules-said a s = sym (rules-decide bytes n) ∙ told (recordRefusal bytes) said a e s
+    -- what the check of 248 bytes answers is what is in them
+    rules-said : (a : Checked) → said ≡ a → contentRefusal bytes ≡ refusalInCheck a
+    rules-said a s = sym (content-decides bytes n) ∙ told (recordRefusal bytes) said a e s
 
     pub rule-broken : (why : Refusal) → said ≡ Broken why → Answer on ci bytes old (Refused why) old
     unfolding writeRefusal
     rule-broken why s = answer (some why) (simp (eq-eqb (length bytes) 248 n, le-leb ci 15 i, rules-said (Broken why) s))
 
     module _ (s : said ≡ Passed) where
-      rules-kept : broken items bytes ≡ none
+      rules-kept : contentRefusal bytes ≡ none
       rules-kept = rules-said Passed s
 
       pub wrong-room : (length old ≡ 262 → ⊥) → Answer on ci bytes old (Refused (refusalPlain Room)) old
@@ -161,11 +164,11 @@ refusal-said ci bytes room = go (writeRefusal ci bytes room)
 
 -- ---- what a caller learns
 
--- what is not refused: 248 bytes that keep the rules, an index up to 15 and room for a packet; their words are left
+-- what is not refused: 248 bytes with nothing in them that is, an index up to 15 and room for a packet; their words are left
 pub record Wrote (on : Bool) (ci : ℕ) (bytes old : List ℕ) : Type 0 where
   pub long : length bytes ≡ 248
   pub index : ci ≤ 15
-  pub rules : broken items bytes ≡ none
+  pub rules : contentRefusal bytes ≡ none
   pub room : length old ≡ 262
   pub left : writeLeaves on ci bytes old ≡ writtenWords on ci bytes
 
@@ -186,6 +189,20 @@ done-wrote on ci bytes old e =
     }
 
 -- and such bytes are not refused
-pub wrote-done : (ci : ℕ) (bytes : List ℕ) → length bytes ≡ 248 → ci ≤ 15 → broken items bytes ≡ none → writtenOf ci bytes 262 ≡ Done
+pub wrote-done : (ci : ℕ) (bytes : List ℕ) → length bytes ≡ 248 → ci ≤ 15 → contentRefusal bytes ≡ none → writtenOf ci bytes 262 ≡ Done
 unfolding writtenOf writeRefusal
 wrote-done ci bytes n i b = simp (eq-eqb (length bytes) 248 n, le-leb ci 15 i, b)
+
+-- 15 is given exactly where the number of bytes and the index are right and a byte of the reserved area is not zero, at the first such byte
+pub write-used : (ci : ℕ) (bytes : List ℕ) (room place : ℕ)
+    → (writeRefusal ci bytes room ≡ some (refusalAt ReservedArea place)) ↔ (((length bytes ≡ 248) × (ci ≤ 15)) × FirstUsed bytes place)
+unfolding writeRefusal numberOf
+write-used ci bytes room place =
+    let fifteen : Refusal = refusalAt ReservedArea place in
+    Iff·trans (require-behind (eqb (length bytes) 248) (refusalPlain Size) fifteen _ (other-number _ _ refl))
+    (Iff·trans
+    (Iff·and (eqb-true (length bytes) 248, eq-eqb (length bytes) 248)
+    (Iff·trans (require-behind (leb ci 15) (refusalPlain Index) fifteen _ (other-number _ _ refl))
+    (Iff·and (leb-true ci 15, le-leb ci 15)
+    (Iff·trans (next-gives (contentRefusal bytes) _ fifteen (never-gives fifteen (search without))) (content-first bytes place)))))
+    (λ (n, (i, F)). ((n, i), F), λ ((n, i), F). (n, (i, F))))
