@@ -440,7 +440,7 @@ static void packet(long n)
 }
 
 /* a foreign encoder's counters, up to three of them in the reserved area and the bytes around it: packet, bytes and desk are refused where a byte of 44
- * to 107 is not zero, at the first of them, and the packet also where the station code is wrong beside it */
+ * to 107 is not zero, at the first of them, before a station code that is wrong too */
 static void counters(long n)
 {
     uint16_t words[AY_PACKET_WORDS];

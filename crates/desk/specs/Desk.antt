@@ -75,14 +75,14 @@ undone d =
 
 -- ---- send: 24, 23
 
--- is nothing in the record refused?
-abbrev pub noneBroken : Option Refusal → Bool
-noneBroken none = true
-noneBroken (some why) = false
+-- is nothing refused?
+abbrev pub noneRefused : Option Refusal → Bool
+noneRefused none = true
+noneRefused (some why) = false
 
 unfoldable pub sendRefusal : Desk → ℕ → Option Refusal
 sendRefusal d room =
-    require (noneBroken (contentRefusal (d .bytes))) (refusalPlain BrokenDesk) (require (eqb room 262) (refusalPlain Room) passed)
+    require (noneRefused (contentRefusal (d .bytes))) (refusalPlain BrokenDesk) (require (eqb room 262) (refusalPlain Room) passed)
 
 -- CI modulo 16 is sent, and the next is counted on from it
 unfoldable pub sent : Desk → ℕ → Turn

@@ -55,15 +55,19 @@ wrongIn (Refused why) = none
 
 -- ---- a run of words
 
--- what word number n is refused for, by what the word check answers of it: 7 at its number, which says what is wrong with it; or 2
+-- what it is refused for at number n, by what the word check answers of it: 7 at its number, which says what is wrong with it; or 2
 abbrev pub wordRefusal : ℕ → Soundness → Option Refusal
 wordRefusal n Sound = passed
 wordRefusal n (Unsound wrong) = some (refusalAt (Parity wrong) n)
 wordRefusal n (Refused why) = some why
 
+-- what word number n is refused for
+abbrev pub unsoundAt : ℕ → ℕ → Option Refusal
+unsoundAt n w = wordRefusal n (soundnessOf w)
+
 -- words that are numbered on from n: the first that is not sound is the refusal
 unfoldable pub unsoundFrom : ℕ → List ℕ → Option Refusal
-unsoundFrom = firstFrom (λ n w. wordRefusal n (soundnessOf w))
+unsoundFrom = firstFrom unsoundAt
 
 -- words that are numbered from 1: 21 for more of them than there are places, then that
 unfoldable pub wordsRefusal : List ℕ → Option Refusal

@@ -5,7 +5,7 @@ ghost use lib.ListN.{length};
 ghost use Rattle.basics.specs.Each.{all};
 ghost use Rattle.refusal.specs.Checked.{checkedOf};
 ghost use Rattle.anc.specs.Word.{isSound};
-ghost use Rattle.soundness.specs.Check.{soundnessBy, soundnessOf, wordRefusal, unsoundFrom, wordsRefusal};
+ghost use Rattle.soundness.specs.Check.{soundnessBy, soundnessOf, unsoundAt, unsoundFrom, wordsRefusal};
 use refusal::Checked;
 use refusal::Reason;
 use refusal::Wrong;
@@ -48,7 +48,7 @@ pub fn check_word(word: u16) -> Soundness
 
 // What a word is refused for at its number: what is wrong with it, or that it is no word of ten bits.
 fn word_refusal(number: u8, word: u16) -> Checked
-    ensures { λ r. ⌜ r ≡ checkedOf (wordRefusal number (soundnessOf word)) ⌝ }
+    ensures { λ r. ⌜ r ≡ checkedOf (unsoundAt number word) ⌝ }
 {
     let soundness = check_word(word);
     match soundness {

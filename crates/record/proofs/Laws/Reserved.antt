@@ -40,6 +40,14 @@ unused-zeros n (b ∷ l) e =
     let both = next-passed (usedAt n b) (firstFrom usedAt (suc n) l) e in
     same-cons (eqb-true b 0 (require-passed (eqb b 0) _ passed (both .0) .0)) (unused-zeros (suc n) l (both .1))
 
+-- what a byte is refused for
+used-given : (n b : ℕ) (why : Refusal) → usedAt n b ≡ some why → (refusalAt ReservedArea n ≡ why) × (b ≡ 0 → ⊥)
+used-given n b why e = by (eqb b 0) refl e
+  where
+    by : (t : Bool) → eqb b 0 ≡ t → require t (refusalAt ReservedArea n) passed ≡ some why → (refusalAt ReservedArea n ≡ why) × (b ≡ 0 → ⊥)
+    by true d e = absurd (passed-other why e)
+    by false d e = (cc, eqb-false b 0 d)
+
 -- ---- the bytes of the area by their numbers
 
 pub area-at : (bytes : List ℕ) (i : ℕ) → i < 64 → getD (reservedArea bytes) i 0 ≡ getD bytes (43 + i) 0
@@ -67,14 +75,6 @@ module _ (bytes : List ℕ) where
       u .other (rw k at (sym (area-at bytes (n - 44) (omega (arith, u .from, u .to))) ∙ e))
 
   -- ---- 15 is given at the first byte that is not zero
-
-  -- what a byte is refused for
-  used-given : (n b : ℕ) (why : Refusal) → usedAt n b ≡ some why → (refusalAt ReservedArea n ≡ why) × (b ≡ 0 → ⊥)
-  used-given n b why e = by (eqb b 0) refl e
-    where
-      by : (t : Bool) → eqb b 0 ≡ t → require t (refusalAt ReservedArea n) passed ≡ some why → (refusalAt ReservedArea n ≡ why) × (b ≡ 0 → ⊥)
-      by true d e = absurd (passed-other why e)
-      by false d e = (cc, eqb-false b 0 d)
 
   -- a byte that is not used is zero
   zero-at : (i : ℕ) → i < 64 → (Used bytes (44 + i) → ⊥) → usedAt (44 + i) (getD (reservedArea bytes) i 0) ≡ passed
@@ -119,7 +119,7 @@ used-first bytes n u = by (firstFrom usedAt 44 (reservedArea bytes)) refl
         absurd (entry-used bytes n u (ap (λ (a : List ℕ). getD a (n - 44) 0) (unused-zeros 44 (reservedArea bytes) e) ∙ getD-replicate (length (reservedArea bytes)) (n - 44) 0 0 l))
     by (some why) e =
         let F = first-exactly usedAt 44 (reservedArea bytes) why .0 e in
-        let g = used-given bytes (44 + F .before) (getD (reservedArea bytes) (F .before) 0) why (F .here) in
+        let g = used-given (44 + F .before) (getD (reservedArea bytes) (F .before) 0) why (F .here) in
         (44 + F .before, reserved-first bytes (44 + F .before) .0 (e ∙ ap some (sym (g .0))))
 
 -- ---- the checks of 248 bytes

@@ -6,7 +6,6 @@ use mathlib.Core.List.{List, [], _∷_}
 use mathlib.Core.Logic.{_↔_, Iff·trans}
 use mathlib.Core.Option.{none, some, Option·some-ne-none}
 use Prim.Native.Nat.{ℕ, suc, _≤_, _<_}
-use native.Mathlib.Omega.{arith}
 use borrow.Author.Tests.{le-leb, lt-leb, leb-true}
 use lib.Dec.{leb, eqb}
 use lib.ListN.{length}
@@ -18,13 +17,13 @@ use Rattle.refusal.specs.Number.{numberOf, refusalAt, refusalPlain}
 use Rattle.refusal.specs.declared.Wrong.{Wrong}
 use Rattle.refusal.specs.declared.Reason.the-variants.{Wide, Parity, Size}
 use Rattle.refusal.specs.declared.Refusal.{Refusal}
-use Rattle.refusal.proofs.Laws.Chain.{next-passed, passed-other, Without, without-passed, without-refused}
+use Rattle.refusal.proofs.Laws.Chain.{next-passed, passed-other, other-number, Without, without-passed, without-refused}
 use Rattle.refusal.proofs.Laws.Run.{first-exactly as first-refused, first-without}
 use Rattle.soundness.specs.declared.Soundness.{Soundness}
 use Rattle.soundness.specs.declared.Soundness.the-variants.{Sound, Unsound, Refused}
 use Rattle.anc.specs.Word.{isSound}
 use Rattle.anc.specs.Words.{narrow}
-use Rattle.soundness.specs.Check.{soundnessOf, wordRefusal, unsoundFrom, wordsRefusal, FirstUnsound}
+use Rattle.soundness.specs.Check.{soundnessOf, wordRefusal, unsoundAt, unsoundFrom, wordsRefusal, FirstUnsound}
 use Rattle.soundness.proofs.Laws.Check.{sound-checked, checked-sound, narrow-unrefused, refused-wide}
 
 -- ---- which words are refused
@@ -47,13 +46,8 @@ pub passed-sound : (n : ℕ) (words : List ℕ) → unsoundFrom n words ≡ none
 unfolding all unsoundFrom firstFrom
 passed-sound n [] e = refl
 passed-sound n (w ∷ words) e =
-    let both = next-passed (wordRefusal n (soundnessOf w)) (unsoundFrom (suc n) words) e in
+    let both = next-passed (unsoundAt n w) (unsoundFrom (suc n) words) e in
     rw (checked-sound w (refused-none n (soundnessOf w) (both .0))) (passed-sound (suc n) words (both .1))
-
--- 7 is not 2
-seven-not-two : (wrong : Wrong) (place : ℕ) → refusalAt (Parity wrong) place ≡ refusalPlain Wide → ⊥
-unfolding numberOf
-seven-not-two wrong place e = let n : _≡_ {A = ℕ} 7 2 = ap (λ (r : Refusal). numberOf (r .reason)) e in omega arith
 
 -- a run is refused with 7 or with 2
 module _ (m : ℕ) (seven : eqb 7 m ≡ false) (two : eqb 2 m ≡ false) where
@@ -72,6 +66,7 @@ module _ (m : ℕ) (seven : eqb 7 m ≡ false) (two : eqb 2 m ≡ false) where
 -- 7 is given of a word that is not sound, at its number, and says what is wrong with it
 word-given : (n w : ℕ) (s : Soundness) (wrong : Wrong) (place : ℕ) → soundnessOf w ≡ s → wordRefusal n s ≡ some (refusalAt (Parity wrong) place)
     → (s ≡ Unsound wrong) × (place ≡ n)
+unfolding numberOf
 word-given n w Sound wrong place d e = absurd (passed-other _ e)
 word-given n w (Unsound other) wrong place d e =
     let whole : refusalAt (Parity other) n ≡ refusalAt (Parity wrong) place = cc in
@@ -80,13 +75,13 @@ word-given n w (Unsound other) wrong place d e =
     (ap Unsound same, sym (ap (λ (r : Refusal). r .place) whole))
 word-given n w (Refused no′) wrong place d e =
     let same : no′ ≡ refusalAt (Parity wrong) place = cc in
-    absurd (seven-not-two wrong place (sym same ∙ refused-wide w no′ d))
+    absurd (other-number (refusalAt (Parity wrong) place) (refusalPlain Wide) refl (sym same ∙ refused-wide w no′ d))
 
 pub first-exactly : (n : ℕ) (words : List ℕ) (wrong : Wrong) (place : ℕ) → (unsoundFrom n words ≡ some (refusalAt (Parity wrong) place)) ↔ FirstUnsound n words wrong place
 unfolding unsoundFrom
 first-exactly n words wrong place = Iff·trans (first-refused _ n words (refusalAt (Parity wrong) place)) (to, from)
   where
-    to : FirstRefused (λ m w. wordRefusal m (soundnessOf w)) n words (refusalAt (Parity wrong) place) → FirstUnsound n words wrong place
+    to : FirstRefused unsoundAt n words (refusalAt (Parity wrong) place) → FirstUnsound n words wrong place
     to F =
         let g = word-given _ _ _ wrong place refl (F .here) in
         record {
@@ -97,7 +92,7 @@ first-exactly n words wrong place = Iff·trans (first-refused _ n words (refusal
           earlier = λ i h. checked-sound _ (refused-none _ _ (F .earlier i h));
         }
 
-    from : FirstUnsound n words wrong place → FirstRefused (λ m w. wordRefusal m (soundnessOf w)) n words (refusalAt (Parity wrong) place)
+    from : FirstUnsound n words wrong place → FirstRefused unsoundAt n words (refusalAt (Parity wrong) place)
     from F = record {
       before = F .before;
       within = F .within;
