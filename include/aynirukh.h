@@ -30,7 +30,7 @@
  *    13   item 3 or 4, picture mode   breaks its rule
  *    14   item 6 or 7, sound mode     breaks its rule
  *    15   a byte of the reserved area, 44 to 107, is not zero; the place is that of the first one; tested after 10 and before 11
- *    20   no such item
+ *    20   no such item: 0, or 14 and more
  *    21   another number of bytes or words than the call takes
  *    22   no step left to undo
  *    23   the room lent for the answer has not the exact size
@@ -55,7 +55,9 @@ extern "C" {
 #define AY_RECORD_BYTES 248
 #define AY_FIELD_BYTES 328
 #define AY_HISTORY 32
-#define AY_STEP_BYTES 9
+#define AY_STEP_BYTES 141
+#define AY_PRIVATE_ITEM 13
+#define AY_PRIVATE_BYTES 141
 
 /* The numbers. */
 enum {
@@ -138,13 +140,14 @@ typedef struct {
     uint16_t offset;
 } AyField;
 
-/* One step of a desk's history: the item, and the bytes that it had before, with zeros behind them. */
+/* One step of a desk's history: the item, and the bytes that it had before, with zeros behind them; 142 bytes. */
 typedef struct {
     uint8_t item;
     uint8_t old[AY_STEP_BYTES];
 } AyStep;
 
-/* The record's bytes, is correction on, the next packet's CI, and the first count of the steps, the oldest first. */
+/* The record's bytes, is correction on, the next packet's CI, and the first count of the steps, the oldest first; 4,795 bytes, which each call of a
+ * desk takes and hands back by value. */
 typedef struct {
     uint8_t bytes[AY_RECORD_BYTES];
     bool correction;
@@ -233,7 +236,8 @@ AyField ay_unpack(const uint8_t *field, size_t field_len, uint16_t *out, size_t 
 /* A desk with the opening record, CI 0 and no history. Refuses nothing. */
 AyDesk ay_desk_open(bool correction);
 
-/* Stores an item's bytes, one step more; of more than 32 steps the oldest goes. Refuses 20, 21, 11 to 14. */
+/* Stores the bytes of an item, 1 to 13, one step more; of more than 32 steps the oldest goes. Item 13 is the private area, bytes 108 to 248, and may hold
+ * anything. Refuses 20, 21, 11 to 14. */
 AyTurn ay_desk_edit(AyDesk desk, uint8_t item, const uint8_t *bytes, size_t bytes_len);
 
 /* Puts back the bytes before the latest step, and takes the step away; CI stays. Refuses 22. */

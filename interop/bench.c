@@ -1,11 +1,13 @@
 /* Times the archive against libfec in one run, on the same bytes and erasures: best of several rounds over many blocks. Prints a table of
- * microseconds and ratios, what n packets cost for n from 10^3 to 10^6, and in the last line whether each figure that was asked for is reached. */
-#define _POSIX_C_SOURCE 199309L
+ * microseconds and ratios, the stack that calls take, what n packets cost for n from 10^3 to 10^6, and in the last line whether each figure that was
+ * asked for is reached. */
+#define _XOPEN_SOURCE 600
 #include <fec.h>
 #include <stdio.h>
 #include <stdlib.h>
 #include <string.h>
 #include <time.h>
+#include <ucontext.h>
 
 #include "../include/aynirukh.h"
 
@@ -36,6 +38,10 @@ static uint8_t marked[MARKED][BLOCKS][BLOCK];
 static uint16_t marked_words[MARKED][BLOCKS][BLOCK];
 static int places[MARKED][BLOCKS][8];
 static volatile unsigned sink;
+
+/* desks with no history and with as much as one holds */
+enum { NO_STEPS, ALL_STEPS, DESKS };
+static AyDesk desk[DESKS];
 
 static uint64_t state = 88172645463325252u;
 static uint32_t next(void)
@@ -104,6 +110,30 @@ static void our_write(int kind, int b)
     uint16_t out[AY_PACKET_WORDS];
     (void)kind;
     sink += ay_write_packet(true, (uint8_t)(b % 16), record[b], DATA, out, AY_PACKET_WORDS).number + out[261];
+}
+
+static void our_edit(int kind, int b)
+{
+    uint8_t mode = (uint8_t)(b % 27);
+    sink += ay_desk_edit(desk[kind], 6, &mode, 1).desk.bytes[26];
+}
+
+static void our_edit_private(int kind, int b)
+{
+    sink += ay_desk_edit(desk[kind], AY_PRIVATE_ITEM, record[b] + 107, AY_PRIVATE_BYTES).desk.bytes[107];
+}
+
+static void our_undo(int kind, int b)
+{
+    (void)b;
+    sink += ay_desk_undo(desk[kind]).desk.bytes[26];
+}
+
+static void our_send(int kind, int b)
+{
+    uint16_t out[AY_PACKET_WORDS];
+    (void)b;
+    sink += ay_desk_send(desk[kind], out, AY_PACKET_WORDS).desk.ci + out[261];
 }
 
 static void fec_encode(int kind, int b)
@@ -219,6 +249,38 @@ static void part(const char *name, double ours, double whole, const char *of, do
     printf("%-36s %8.3f, that is %.2f of a %s   at most %.2f%s\n", name, ours, ratio, of, wanted, reached ? "" : "   missed");
 }
 
+/* bytes of stack that a call takes, with what is handed in and back by value: what it has touched of a stack of its own */
+static uint8_t stack[1 << 17];
+static ucontext_t here, there;
+static job called;
+static int called_with;
+
+static void call(void)
+{
+    called(called_with, 0);
+}
+
+static void stack_of(const char *name, job f, int kind)
+{
+    memset(stack, 0xA5, sizeof stack);
+    called = f;
+    called_with = kind;
+    getcontext(&there);
+    there.uc_stack.ss_sp = stack;
+    there.uc_stack.ss_size = sizeof stack;
+    there.uc_link = &here;
+    makecontext(&there, call, 0);
+    swapcontext(&here, &there);
+    size_t left = 0;
+    while (left < sizeof stack && stack[left] == 0xA5)
+        left++;
+    size_t taken = sizeof stack - left;
+    int reached = taken < 65536;
+    figures++;
+    missed += !reached;
+    printf("%-36s %8zu bytes of stack   under 65536%s\n", name, taken, reached ? "" : "   missed");
+}
+
 int main(void)
 {
     rs = init_rs_char(8, 0x11d, 0, 1, 6, 1);
@@ -248,6 +310,17 @@ int main(void)
             damage(damaged[k][b], changes_of[k], place);
             to_words(damaged[k][b], damaged_words[k][b]);
         }
+    }
+    desk[NO_STEPS] = ay_desk_open(true);
+    desk[ALL_STEPS] = desk[NO_STEPS];
+    for (int n = 0; n < AY_HISTORY; n++) {
+        AyTurn turn = n % 2 ? ay_desk_edit(desk[ALL_STEPS], AY_PRIVATE_ITEM, record[n] + 107, AY_PRIVATE_BYTES)
+                            : ay_desk_edit(desk[ALL_STEPS], 1, record[n], 8);
+        if (turn.number != AY_DONE) {
+            puts("bench: an edit is refused");
+            return 1;
+        }
+        desk[ALL_STEPS] = turn.desk;
     }
     /* with four marks almost any bytes are near some codeword, and repair gives that one: hopeless is what it refuses */
     for (int k = 0; k < MARKED; k++)
@@ -283,8 +356,22 @@ int main(void)
     row("check, none / decode", time_of(our_check, 4), time_of(fec_decode, 4), 2);
     part("check a codeword", check, clean, "clean repair", 1);
     part("read a clean packet", time_of(our_read, 0), clean, "clean repair", 1.5);
+    double send = time_of(our_send, ALL_STEPS);
+    printf("%-36s %8.3f\n", "send", send);
+    part("edit one byte, no history", time_of(our_edit, NO_STEPS), send, "send", 1);
+    part("edit one byte, 32 steps", time_of(our_edit, ALL_STEPS), send, "send", 1);
+    part("edit the private bytes, 32 steps", time_of(our_edit_private, ALL_STEPS), send, "send", 1);
+    part("undo, 32 steps", time_of(our_undo, ALL_STEPS), send, "send", 1);
     for (int k = 0; k < MARKED; k++)
         part(marked_of[k].name, with_marks[k], three, "repair of three words", 2);
+    stack_of("edit one byte, 32 steps", our_edit, ALL_STEPS);
+    stack_of("edit the private bytes, 32 steps", our_edit_private, ALL_STEPS);
+    stack_of("undo, 32 steps", our_undo, ALL_STEPS);
+    stack_of("send", our_send, ALL_STEPS);
+    stack_of("write a packet", our_write, 0);
+    stack_of("read a clean packet", our_read, 0);
+    stack_of("repair, three words", our_repair, 3);
+    stack_of("six erasures", our_repair_marked, SIX_ERASED);
     for (long n = 1000; n <= 1000000; n *= 10) {
         double start = now();
         for (long i = 0; i < n; i++) {

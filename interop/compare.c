@@ -6,6 +6,8 @@
  *     over bytes that are mostly right; and words between two codewords that are seven bytes apart, where one rule ends and the other begins;
  *   - packets: the 262 words of random records must be those of GStreamer's encoder, and must read back; and what that encoder makes of bytes with
  *     counters in the reserved area must be refused, at the first of them;
+ *   - turns at a desk: edits of the items that may hold anything, the private bytes among them, undos and sends, beside a history of whole records kept
+ *     here: the desk's bytes must be the record that it gives, and the words sent those that GStreamer's encoder makes of it;
  *   - every number of 16 bits through the word check, and packets with correction off in which upper bits are wrong: what is wrong, and of which
  *     word, must be as counted here.
  * A line for each sort of marked delivery says which rule repaired how many. The last line says how many of each were equal; the exit status is 0
@@ -468,6 +470,63 @@ static void counters(long n)
         fail("sending counters", n);
 }
 
+/* a desk, and beside it the records of its history, the present one last */
+static AyDesk desk_there;
+static uint8_t records[AY_HISTORY + 1][DATA];
+static int steps, sends;
+
+static void open_desk(void)
+{
+    desk_there = ay_desk_open(true);
+    memcpy(records[0], desk_there.bytes, DATA);
+}
+
+/* an edit of an item that may hold anything; of more than 32 steps the oldest goes */
+static void edit(long n)
+{
+    static const struct { int item, first, length; } any[7] = {{5, 26, 1}, {8, 29, 1}, {9, 30, 4}, {10, 34, 4}, {11, 38, 4}, {12, 42, 2}, {13, 108, 141}};
+    int i = (int)(next() % 7);
+    uint8_t bytes[DATA];
+    for (int k = 0; k < any[i].length; k++)
+        bytes[k] = (uint8_t)next();
+    AyTurn turn = ay_desk_edit(desk_there, (uint8_t)any[i].item, bytes, (size_t)any[i].length);
+    if (turn.number != AY_DONE)
+        fail("an edit", n);
+    desk_there = turn.desk;
+    if (steps == AY_HISTORY)
+        memmove(records[0], records[1], AY_HISTORY * DATA);
+    else
+        steps++;
+    memcpy(records[steps], records[steps - 1], DATA);
+    memcpy(records[steps] + any[i].first - 1, bytes, (size_t)any[i].length);
+}
+
+/* 64 turns with more edits than undos, then 64 with more undos than edits, so that the history is full, and then empty, again and again */
+static void desk_turn(long n)
+{
+    uint16_t words[AY_PACKET_WORDS], theirs[AY_PACKET_WORDS];
+    if ((next() % 8 == 0) == (n / 64 % 2)) {
+        edit(n);
+    } else {
+        AyTurn turn = ay_desk_undo(desk_there);
+        if (turn.number != (steps ? AY_DONE : AY_NOTHING_TO_UNDO))
+            fail("an undo", n);
+        desk_there = turn.desk;
+        steps -= steps > 0;
+    }
+    if (desk_there.count != steps || memcmp(desk_there.bytes, records[steps], DATA))
+        fail("the desk's record", n);
+    if (n % 4 == 0) {
+        AyTurn turn = ay_desk_send(desk_there, words, AY_PACKET_WORDS);
+        if (turn.number != AY_DONE)
+            fail("a send", n);
+        desk_there = turn.desk;
+        foreign(theirs, records[steps], 1, sends++ % 16, n);
+        if (memcmp(words, theirs, sizeof(words)))
+            fail("a word that was sent", n);
+    }
+}
+
 /* data words of a packet with correction off are changed: reading names the first that is not sound, and what is wrong with it */
 static void unsound(long n)
 {
@@ -520,7 +579,11 @@ int main(int argc, char **argv)
         packet(n);
         counters(n);
     }
+    open_desk();
+    for (long n = 0; n < packets; n++)
+        desk_turn(n);
     printf("compare: %ld deliveries and %ld marked ones equal to libfec and to our check, %ld packets equal to GStreamer's, 65536 words and %ld "
-           "packets with unsound words and %ld with counters as counted\n", deliveries, marks, packets, packets, packets);
+           "packets with unsound words and %ld with counters as counted, %ld turns at a desk as our history has them\n", deliveries, marks, packets, packets,
+           packets, packets);
     return 0;
 }

@@ -13,8 +13,9 @@
 typedef char word_is_3_bytes[sizeof(AyWord) == 3 ? 1 : -1];
 typedef char verdict_is_3_bytes[sizeof(AyVerdict) == 3 ? 1 : -1];
 typedef char packet_is_6_bytes[sizeof(AyPacket) == 6 ? 1 : -1];
-typedef char desk_is_571_bytes[sizeof(AyDesk) == 571 ? 1 : -1];
-typedef char turn_is_573_bytes[sizeof(AyTurn) == 573 ? 1 : -1];
+typedef char step_is_142_bytes[sizeof(AyStep) == 142 ? 1 : -1];
+typedef char desk_is_4795_bytes[sizeof(AyDesk) == 4795 ? 1 : -1];
+typedef char turn_is_4797_bytes[sizeof(AyTurn) == 4797 ? 1 : -1];
 typedef char follower_is_272_bytes[sizeof(AyFollower) == 272 ? 1 : -1];
 typedef char followed_is_284_bytes[sizeof(AyFollowed) == 284 ? 1 : -1];
 
@@ -81,6 +82,29 @@ static AyDesk edits(AyDesk desk)
     expect_bytes("the desk after a refusal", &refused.desk, &turn.desk, sizeof(AyDesk));
     expect("number of an undo at a fresh desk", ay_desk_undo(ay_desk_open(true)).number, AY_NOTHING_TO_UNDO);
     return turn.desk;
+}
+
+/* The private bytes, which a network keeps for its own data: edited, sent and followed, undone; one byte too few; an item too many. */
+static void private_bytes(AyDesk desk)
+{
+    uint8_t data[AY_PRIVATE_BYTES];
+    uint16_t sent[AY_PACKET_WORDS];
+    for (int i = 0; i < AY_PRIVATE_BYTES; i++)
+        data[i] = (uint8_t) (7 * i + 1);
+    AyTurn turn = ay_desk_edit(desk, AY_PRIVATE_ITEM, data, AY_PRIVATE_BYTES);
+    expect("number of the private bytes", turn.number, AY_DONE);
+    expect_bytes("the private bytes", turn.desk.bytes + 107, data, AY_PRIVATE_BYTES);
+    expect_bytes("the bytes before them", turn.desk.bytes, desk.bytes, 107);
+    expect("item of their step", turn.desk.steps[desk.count].item, AY_PRIVATE_ITEM);
+    expect_bytes("their step", turn.desk.steps[desk.count].old, desk.bytes + 107, AY_PRIVATE_BYTES);
+    expect("number of sending them", ay_desk_send(turn.desk, sent, AY_PACKET_WORDS).number, AY_DONE);
+    AyFollowed followed = ay_follower_follow(ay_follower_open(), sent, AY_PACKET_WORDS);
+    expect_bytes("the private bytes as followed", followed.follower.rec + 107, data, AY_PRIVATE_BYTES);
+    turn = ay_desk_undo(turn.desk);
+    expect("number of their undo", turn.number, AY_DONE);
+    expect_bytes("the record after their undo", turn.desk.bytes, desk.bytes, AY_RECORD_BYTES);
+    expect("number of 140 of them", ay_desk_edit(desk, AY_PRIVATE_ITEM, data, AY_PRIVATE_BYTES - 1).number, AY_SIZE);
+    expect("number of item 14", ay_desk_edit(desk, AY_PRIVATE_ITEM + 1, data, AY_PRIVATE_BYTES).number, AY_ITEM);
 }
 
 /* What the other calls on packets say of the words, and repair of the protected ones alone. */
@@ -267,6 +291,7 @@ int main(void)
     checks(sent);
     upper_bits(&turn.desk);
     counters(&turn.desk);
+    private_bytes(turn.desk);
     fields(sent);
     follows(turn.desk, damaged);
     return differences == 0 ? 0 : 1;

@@ -1,8 +1,9 @@
--- The items of the record as one table.
+-- The items of the record as one table, and whose byte each of the 248 is.
 -- Assumes nothing.
-use mathlib.Core.Bool.{Bool, true}
+use mathlib.Core.Bool.{Bool, true, cond, _&&_}
 use mathlib.Core.List.{List, [], _∷_}
-use Prim.Native.Nat.{ℕ, _-_}
+use Prim.Native.Nat.{ℕ, _+_, _-_}
+use lib.Dec.{leb, ltb}
 use lib.ListN.{take, drop}
 use Rattle.refusal.specs.declared.Reason.{Reason}
 use Rattle.refusal.specs.declared.Reason.the-variants.{Station, Time, Picture, Sound, Item}
@@ -41,8 +42,24 @@ items =
     ∷ free 10 34 4
     ∷ free 11 38 4
     ∷ free 12 42 2
+    ∷ free 13 108 141
     ∷ []
 
 -- the bytes of an item
 unfoldable pub part : Row → List ℕ → List ℕ
 part i bytes = take (i .long) (drop (i .first - 1) bytes)
+
+-- ---- whose byte it is
+
+-- is byte number n one of the item's?
+abbrev pub hasByte : ℕ → Row → Bool
+hasByte n i = leb (i .first) n && ltb n (i .first + i .long)
+
+-- how many of these items have it
+unfoldable pub holders : ℕ → List Row → ℕ
+holders n [] = 0
+holders n (i ∷ is) = cond (hasByte n i) 1 0 + holders n is
+
+-- is it one of the reserved area, 44 to 107?
+abbrev pub reservedByte : ℕ → Bool
+reservedByte n = leb 44 n && leb n 107

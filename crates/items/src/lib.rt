@@ -18,9 +18,9 @@ pub struct ItemPlace {
     pub length: usize,
 }
 
-const FIRST: [usize; 13] = [0, 1, 9, 18, 22, 26, 27, 28, 29, 30, 34, 38, 42];
+const FIRST: [usize; 14] = [0, 1, 9, 18, 22, 26, 27, 28, 29, 30, 34, 38, 42, 108];
 
-const LENGTH: [usize; 13] = [0, 8, 9, 4, 4, 1, 1, 1, 1, 4, 4, 4, 2];
+const LENGTH: [usize; 14] = [0, 8, 9, 4, 4, 1, 1, 1, 1, 4, 4, 4, 2, 141];
 
 // There is no such item.
 fn no_item() -> ItemPlace
@@ -40,7 +40,7 @@ pub fn item_place(number: u8) -> ItemPlace
     if number == 0 {
         return no_item();
     }
-    if 12 < number {
+    if 13 < number {
         return no_item();
     }
     let at = number as usize;

@@ -2,3 +2,4 @@
 pub mod Page
 pub mod Shown
 pub mod Whole
+pub mod Counted

@@ -1,12 +1,15 @@
 -- The lines that are printed of a field: `refused N P` alone, or the field's head, the packet, and each item's record bytes.
 -- Assumes nothing.
 use mathlib.Core.Bool.{Bool, cond}
-use mathlib.Core.List.{List, [], _∷_, _++_}
+use mathlib.Core.List.{List, [], _∷_, _++_, map}
 use mathlib.Core.Option.{Option, none, some}
-use Prim.Native.Nat.{ℕ, zero, suc}
+use Prim.Native.Nat.{ℕ, _+_}
+use lib.Dec.{eqb}
 use Rattle.refusal.specs.Chain.{next}
 use Rattle.refusal.specs.Number.{numberOf}
 use Rattle.refusal.specs.declared.Refusal.{Refusal}
+use Rattle.items.specs.Items.{items}
+use Rattle.record.specs.Record.{privatePart}
 use Rattle.record.specs.Stored.{itemLent}
 use Rattle.reading.specs.declared.Packet.{Packet}
 use Rattle.reading.specs.Reading.{readRefusal, readRecord}
@@ -57,16 +60,20 @@ packetLine p = threeLine packetWord (flagOf (p .correction)) (p .ci) (p .fixed)
 unfoldable pub itemLine : List ℕ → ℕ → List ℕ
 itemLine rec number = decimal number ++ hexBytes (itemLent number rec) ++ (newline ∷ [])
 
--- so many items, from the given one on
-unfoldable pub itemLines : ℕ → ℕ → List ℕ → List ℕ
-itemLines zero number rec = []
-itemLines (suc k) number rec = itemLine rec number ++ itemLines k (suc number) rec
+-- a line for each of these items
+unfoldable pub itemLines : List ℕ → List ℕ → List ℕ
+itemLines [] rec = []
+itemLines (number ∷ rest) rec = itemLine rec number ++ itemLines rest rec
+
+-- the numbers of the table of items
+unfoldable pub numbers : List ℕ
+numbers = map (λ i. i .number) items
 
 -- ---- what is printed of a field
 
--- the refusal alone, or the head, the packet and the twelve items
+-- the refusal alone, or the head, the packet and each item of the table
 abbrev pub linesBy : Option Refusal → Head → List ℕ → List ℕ
-linesBy none h words = fieldLine (h .yc) (h .line) (h .offset) ++ packetLine (packetOf words) ++ itemLines 12 1 (readRecord words)
+linesBy none h words = fieldLine (h .yc) (h .line) (h .offset) ++ packetLine (packetOf words) ++ itemLines numbers (readRecord words)
 linesBy (some why) h words = refusedLine why
 
 -- of the words of a packet
@@ -76,6 +83,15 @@ packetLines h words = linesBy (readRefusal words) h words
 -- of a field: 25 and 26, and then what the packet is refused for
 unfoldable pub fieldLines : List ℕ → List ℕ
 fieldLines field = linesBy (next (unpackRefusal field 262) (readRefusal (wordsOf field))) (headOf field) (wordsOf field)
+
+-- how many lines a text has
+unfoldable pub linesIn : List ℕ → ℕ
+linesIn [] = 0
+linesIn (c ∷ text) = cond (eqb c newline) 1 0 + linesIn text
+
+-- the line of item 13: its number and the private area
+unfoldable pub privateLine : List ℕ → List ℕ
+privateLine rec = (0x31 ∷ 0x33 ∷ []) ++ hexBytes (privatePart rec) ++ (newline ∷ [])
 
 -- on a page
 unfoldable pub shown : List ℕ → Page

@@ -27,10 +27,10 @@ unfoldable pub hexBytes : List ℕ → List ℕ
 hexBytes [] = []
 hexBytes (b ∷ bytes) = hexByte b ++ hexBytes bytes
 
--- ---- the page: 256 places, of which the first `length` are written
+-- ---- the page: 704 places, of which the first `length` are written; the lines of a field take 679 at the most
 
 abbrev pub places : ℕ
-places = 256
+places = 704
 
 unfoldable pub blank : Page
 blank = record { bytes = replicate places 0; length = 0 }

@@ -5,7 +5,7 @@ ghost use mathlib.Core.Path.{_≡_};
 ghost use Prim.Native.Nat.{_≤_};
 ghost use lib.ListN.{length};
 ghost use Rattle.lines.specs.Text.{places, blank, written};
-ghost use Rattle.lines.specs.Shown.{flagOf, threeLine, refusedLine, fieldLine, packetLine, itemLine, itemLines, packetLines, shown};
+ghost use Rattle.lines.specs.Shown.{flagOf, threeLine, refusedLine, fieldLine, packetLine, itemLine, itemLines, numbers, packetLines, shown};
 use page::Page;
 
 // Yes is 1 and no is 0.
@@ -62,13 +62,13 @@ fn write_item(page: Page, number: u8, rec: &[u8]) -> Page
     page::write(p1, b"\n")
 }
 
-// The twelve items.
+// The thirteen items.
 fn write_items(page: Page, rec: &[u8]) -> Page
-    ensures { λ r. ⌜ r ≡ written page (itemLines 12 1 (now (rec .entry))) ⌝ }
+    ensures { λ r. ⌜ r ≡ written page (itemLines numbers (now (rec .entry))) ⌝ }
 {
     let mut out = page;
     let mut number: u8 = 1;
-    while number <= 12 {
+    while number <= 13 {
         let next = write_item(out, number, rec);
         out = next;
         number += 1;

@@ -1,11 +1,11 @@
-// A page of 256 places that text is written on, character by character.
+// A page of 704 places that text is written on, character by character.
 ghost use mathlib.Core.Path.{_≡_};
 ghost use Prim.Native.Nat.{_<_, _≤_};
 ghost use Rattle.lines.specs.Text.{digit, leading, decimal, hexByte, hexBytes, blank, pushed, written};
 
 // The places, of which the first `length` are written; the others are zero.
 pub struct Page {
-    pub bytes: [u8; 256],
+    pub bytes: [u8; 704],
     pub length: usize,
 }
 
@@ -13,7 +13,7 @@ pub(crate) fn fresh() -> Page
     ensures { λ r. ⌜ r ≡ blank ⌝ }
 {
     Page {
-        bytes: [0u8; 256],
+        bytes: [0u8; 704],
         length: 0,
     }
 }
@@ -23,7 +23,7 @@ fn push(page: Page, c: u8) -> Page
     ensures { λ r. ⌜ r ≡ pushed page c ⌝ }
 {
     let at = page.length;
-    if at < 256 {
+    if at < 704 {
         let mut bytes = page.bytes;
         bytes[at] = c;
         return Page {

@@ -6,6 +6,7 @@ pub mod Calls
 pub mod PacketCalls
 pub mod Words
 pub mod Reserved
+pub mod Private
 pub mod Checking
 pub mod Packets
 pub mod History

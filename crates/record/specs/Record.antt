@@ -3,7 +3,7 @@
 use mathlib.Core.Bool.{cond}
 use mathlib.Core.List.{List, [], _∷_, _++_}
 use mathlib.Core.Option.{Option}
-use Prim.Native.Nat.{ℕ, _+_}
+use Prim.Native.Nat.{ℕ, _+_, _-_}
 use lib.Dec.{eqb}
 use lib.ListN.{length, drop, replicate}
 use Rattle.refusal.specs.Chain.{require, next, passed}
@@ -13,15 +13,15 @@ use Rattle.refusal.specs.declared.Refusal.{Refusal}
 use Rattle.items.specs.Items.{Row, items, part}
 use Rattle.record.specs.Reserved.{reservedRefusal}
 
--- the items' bytes, cleaned, one after the other
-unfoldable pub cleaned : List Row → List ℕ → List ℕ
-cleaned [] bytes = []
-cleaned (i ∷ is) bytes = i .clean (part i bytes) ++ cleaned is bytes
+-- from byte number n on, each item's bytes in its place, cleaned, and zeros where there is no item
+unfoldable pub laidOut : ℕ → List Row → List ℕ → List ℕ
+laidOut n [] bytes = []
+laidOut n (i ∷ is) bytes = replicate (i .first - n) 0 ++ i .clean (part i bytes) ++ laidOut (i .first + i .long) is bytes
 
--- the record: the items cleaned, zeros in the reserved area (bytes 44 to 107), and the private area (bytes 108 to 248) as it is. The reserved
--- area is no place that isn't read: of bytes that are not refused the record has zeros there because they were zero
+-- the record: its items and the reserved area (bytes 44 to 107), which is all that no item has. It is no place that isn't read: of bytes that
+-- are not refused the record has zeros there because they were zero
 unfoldable pub recordOf : List ℕ → List ℕ
-recordOf bytes = cleaned items bytes ++ replicate 64 0 ++ drop 107 bytes
+recordOf bytes = laidOut 1 items bytes
 
 -- the first rule that is broken, with the item's first byte as its place
 unfoldable pub broken : List Row → List ℕ → Option Refusal
@@ -42,7 +42,7 @@ recordRefusal bytes = require (eqb (length bytes) 248) (refusalPlain Size) (cont
 abbrev pub bytesOn : ℕ → ℕ × ℕ → ℕ × ℕ
 bytesOn n at = (at .0, n + at .1)
 
--- the private area: bytes 108 to 248 of 248, or nothing
+-- the private area, which is item 13: bytes 108 to 248 of 248, or nothing
 unfoldable pub privatePart : List ℕ → List ℕ
 privatePart bytes = cond (eqb (length bytes) 248) (drop 107 bytes) []
 

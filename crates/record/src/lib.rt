@@ -1,6 +1,6 @@
-// The record: the 248 bytes of a packet's items, reserved area and private area. What they are refused for, the record of some bytes,
-// in which the reserved area and every place that isn't read is zero, one item's bytes in it, and the private area as a part of the caller's
-// own bytes.
+// The record: the 248 bytes of a packet's items and reserved area. What they are refused for, the record of some bytes, in which the
+// reserved area and every place that isn't read is zero, one item's bytes in it, and the private area, which is item 13, as a part of the
+// caller's own bytes.
 ghost use mathlib.Core.Path.{_≡_};
 ghost use Prim.Native.Nat.{_+_, _≤_};
 ghost use lib.ListN.{length};

@@ -21,7 +21,7 @@ abbrev pub depth : ℕ
 depth = 32
 
 abbrev pub stepRoom : ℕ
-stepRoom = 9
+stepRoom = 141
 
 -- ---- the steps, the oldest first; those from the count on are not there
 

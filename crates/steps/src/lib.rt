@@ -21,7 +21,7 @@ impl Step {
     pub const DEPTH: usize = 32;
 
     // How many bytes a step has room for: those of the longest item.
-    pub const ROOM: usize = 9;
+    pub const ROOM: usize = 141;
 }
 
 // The steps that are there: a count above the depth, which no opening leads to, is taken for the depth.

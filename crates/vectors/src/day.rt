@@ -92,14 +92,32 @@ fn damage(words: &mut [u16], chance: u64) {
     }
 }
 
-// An edit of the sound mode or of the triggers, or an undo.
+// Fills bytes with a run of numbers that look like chance.
+pub(crate) fn fill(bytes: &mut [u8], chance: u64) {
+    let mut x = chance;
+    let mut i = 0;
+    while i < bytes.len() {
+        let y = next(x);
+        bytes[i] = (y % 256) as u8;
+        x = y;
+        i += 1;
+    }
+}
+
+// An edit of the sound mode, of the triggers or of the private bytes, or an undo.
 fn turned(desk: Desk, chance: u64) -> Desk {
-    if chance % 3 == 0 {
-        let mode = [(chance / 3 % 27) as u8];
+    if chance % 4 == 0 {
+        let mode = [(chance / 4 % 27) as u8];
         let turn = desk.edit(6, &mode);
         return turn.desk;
     }
-    if chance % 3 == 1 {
+    if chance % 4 == 1 {
+        let mut private = [0u8; 141];
+        fill(&mut private, chance);
+        let turn = desk.edit(13, &private);
+        return turn.desk;
+    }
+    if chance % 4 == 2 {
         let triggers = [
             (chance / 5 % 256) as u8,
             (chance / 7 % 256) as u8,

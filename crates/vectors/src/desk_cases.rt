@@ -1,4 +1,4 @@
-// Cases that are run: three changed words, six that confess, and the end of the history.
+// Cases that are run: three changed words, six that confess, the end of the history, and the private bytes edited and undone.
 use crate::day;
 use desk::Desk;
 
@@ -73,4 +73,45 @@ pub(crate) fn undos_after(edits: usize) -> Undone {
         n += 1;
     }
     Undone { count, number: 0 }
+}
+
+// The number of the refusal of an edit at a fresh desk with the first `count` of 141 bytes; 0 where there is none.
+pub(crate) fn edit_with(item: u8, count: usize) -> u64 {
+    let mut bytes = [0u8; 141];
+    day::fill(&mut bytes, 20261116);
+    let desk = Desk::open(true);
+    if 141 < count {
+        return 255;
+    }
+    let told = answers::turn(desk.edit(item, &bytes[0..count]));
+    told.number as u64
+}
+
+// A desk after an edit of the private bytes.
+fn with_private(desk: Desk, chance: u64) -> Desk {
+    let mut bytes = [0u8; 141];
+    day::fill(&mut bytes, chance);
+    let turn = desk.edit(13, &bytes);
+    turn.desk
+}
+
+// One if two undos after two edits of the private bytes give back, one after the other, the records that were there before.
+pub(crate) fn private_undone() -> u64 {
+    let fresh = Desk::open(true);
+    let once = with_private(fresh, 1);
+    let twice = with_private(once, 2);
+    let first = twice.undo();
+    let back = first.desk;
+    let second = back.undo();
+    if same_bytes(back, once) & same_bytes(second.desk, fresh) {
+        return 1;
+    }
+    0
+}
+
+// Have two desks the same bytes?
+fn same_bytes(a: Desk, b: Desk) -> bool {
+    let x = a.bytes;
+    let y = b.bytes;
+    check::same(&x, &y)
 }

@@ -1,6 +1,6 @@
 // Runs what is compared and not proved: parities, repairs and checks that another program worked out, the same repairs by the plain repairer,
-// three changed words at both ends of the codeword and six that confess, the end of the history, a foreign encoder's counters, and a day of a
-// desk and a follower over a damaged line. Prints what was compared.
+// three changed words at both ends of the codeword and six that confess, the end of the history, the private bytes edited and undone, a foreign
+// encoder's counters, and a day of a desk and a follower over a damaged line. Prints what was compared.
 mod day;
 mod desk_cases;
 mod foreign;
@@ -42,6 +42,19 @@ fn main() {
     let undone = desk_cases::undos_after(33);
     line(b"undos after 33 edits: ", undone.count);
     line(b"then refused: ", undone.number);
+    line(
+        b"item 13 with 141 bytes, refused: ",
+        desk_cases::edit_with(13, 141),
+    );
+    line(
+        b"item 13 with 140 bytes, refused: ",
+        desk_cases::edit_with(13, 140),
+    );
+    line(b"item 14, refused: ", desk_cases::edit_with(14, 141));
+    line(
+        b"two undos of the private bytes give back what was there: ",
+        desk_cases::private_undone(),
+    );
     let reserved = foreign::read_with(59);
     line(
         b"counters in bytes 60 to 63, of which 61 is the first that is not zero, refused: ",

@@ -17,7 +17,7 @@ use Rattle.refusal.specs.declared.Refusal.{Refusal}
 use Rattle.rules.specs.Rules.{stationRule, stationByte, timeRule, timeByte, decimal, pictureRule, pictureClean, soundRule, soundByte}
 use Rattle.refusal.specs.Run.{firstFrom}
 use Rattle.record.specs.Reserved.{reservedArea, reservedRefusal}
-use Rattle.record.specs.Record.{cleaned, recordOf, broken, contentRefusal}
+use Rattle.record.specs.Record.{laidOut, recordOf, broken, contentRefusal}
 use Rattle.items.specs.Items.{items, part}
 use Rattle.items.specs.Item.{rowOf, put, putIn, itemRefusal, cleanOf, putItem}
 use Rattle.basics.specs.Each.{all}
@@ -87,7 +87,7 @@ pub record Stands (on : Bool) (d : Desk) (m : Model) : Type 0 where
 
 -- the opening record is clean
 opening-clean : CleanRecord opening
-unfolding opening items part cleaned recordOf reservedArea firstFrom reservedRefusal broken contentRefusal rowOf put putIn putItem stationRule stationByte timeRule timeByte decimal all pictureRule pictureClean soundRule soundByte
+unfolding opening items part laidOut recordOf reservedArea firstFrom reservedRefusal broken contentRefusal rowOf put putIn putItem stationRule stationByte timeRule timeByte decimal all pictureRule pictureClean soundRule soundByte
 opening-clean = record { long = refl; rules = refl; own = refl }
 
 pub open-stands : (on : Bool) → Stands on (opened on) fresh

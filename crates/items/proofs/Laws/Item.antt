@@ -1,9 +1,9 @@
--- One item by its number: which numbers have a row, what a row without a rule says, and the checks of an item's bytes.
+-- One item by its number: which numbers have a row, whose byte each is, what a row without a rule says, and the checks of an item's bytes.
 -- Assumes nothing.
-use mathlib.Core.Path.{_≡_, refl, sym, ap, _∙_}
+use mathlib.Core.Path.{_≡_, refl, sym, ap, _∙_, subst}
 use mathlib.Core.Bool.{Bool, true, false, cond, _&&_}
 use mathlib.Core.List.{List, [], _∷_}
-use mathlib.Core.Logic.{⊎-elim}
+use mathlib.Core.Logic.{_↔_, _⊎_, inl, inr, ⊎-elim}
 use mathlib.Core.Option.{Option, none, some}
 use Prim.Native.Nat.{ℕ, zero, suc, _<_, _≤_}
 use native.Mathlib.Omega.{arith}
@@ -18,13 +18,13 @@ use Rattle.refusal.specs.declared.Checked.the-variants.{Passed, Refused}
 use Rattle.refusal.specs.Checked.{checkedOf}
 use Rattle.refusal.proofs.Laws.Chain.{passed-refused}
 use Rattle.items.specs.declared.ItemPlace.{ItemPlace}
-use Rattle.items.specs.Items.{Row, free, items}
+use Rattle.items.specs.Items.{Row, free, items, holders, reservedByte}
 use Rattle.items.specs.Item.{rowOf, refusedIn, itemRefusal, placeIn, placeOf, ruleIn, ruleOf, reasonIn, reasonOf}
 use Rattle.basics.proofs.Laws.Test.{below, below-at, both-left, both-right, lt-or-le}
 
 -- ---- the numbers that have a row
 
-pub row-none : (n : ℕ) → 12 < n → rowOf n items ≡ none
+pub row-none : (n : ℕ) → 13 < n → rowOf n items ≡ none
 unfolding rowOf items
 row-none n h =
     simp (
@@ -40,19 +40,47 @@ row-none n h =
       ne-eqb n 10 (λ e. omega arith),
       ne-eqb n 11 (λ e. omega arith),
       ne-eqb n 12 (λ e. omega arith),
+      ne-eqb n 13 (λ e. omega arith),
     )
 
 known : Option Row → Bool
 known none = false
 known (some i) = true
 
-all-known : T (below (λ (k : ℕ). known (rowOf (suc k) items)) 12)
+all-known : T (below (λ (k : ℕ). known (rowOf (suc k) items)) 13)
 unfolding known rowOf items
 all-known = tt
 
-row-known : (n : ℕ) → 0 < n → n ≤ 12 → T (known (rowOf n items))
+row-known : (n : ℕ) → 0 < n → n ≤ 13 → T (known (rowOf n items))
 row-known zero p h = absurd (omega arith)
-row-known (suc k) p h = below-at (λ (k : ℕ). known (rowOf (suc k) items)) 12 all-known k (omega arith)
+row-known (suc k) p h = below-at (λ (k : ℕ). known (rowOf (suc k) items)) 13 all-known k (omega arith)
+
+pub row-zero : rowOf 0 items ≡ none
+unfolding rowOf items
+row-zero = refl
+
+-- there is no such item exactly for 0 and from 14 on
+pub no-row : (n : ℕ) → (rowOf n items ≡ none) ↔ ((n ≡ 0) ⊎ (13 < n))
+unfolding known
+no-row n = (to, ⊎-elim (λ e. rw e row-zero) (row-none n))
+  where
+    to : rowOf n items ≡ none → (n ≡ 0) ⊎ (13 < n)
+    to e =
+        ⊎-elim (λ p. ⊎-elim inr (λ h. absurd (subst (λ (o : Option Row). T (known o)) e (row-known n p h))) (lt-or-le 13 n)) (λ z. inl (omega arith)) (lt-or-le 0 n)
+
+-- ---- each byte is one item's, but those of the reserved area, which are none's
+
+whose : ℕ → Bool
+whose k = eqb (holders (suc k) items) (cond (reservedByte (suc k)) 0 1)
+
+all-whose : T (below whose 248)
+unfolding whose holders items
+all-whose = tt
+
+pub one-holder : (n : ℕ) → 1 ≤ n → n ≤ 248 → holders n items ≡ cond (reservedByte n) 0 1
+unfolding whose
+one-holder zero p h = absurd (omega arith)
+one-holder (suc k) p h = eqb→eq _ _ (below-at whose 248 all-whose k (omega arith))
 
 -- ---- a row without a rule
 
@@ -72,32 +100,33 @@ no-rule g n x q p n1 n2 n3 n4 n6 n7 =
     (either-row g (eqb n 9) (free 9 30 4) _ x (q 9 30 4)
     (either-row g (eqb n 10) (free 10 34 4) _ x (q 10 34 4)
     (either-row g (eqb n 11) (free 11 38 4) _ x (q 11 38 4)
-    (either-row g (eqb n 12) (free 12 42 2) _ x (q 12 42 2) p))))))
+    (either-row g (eqb n 12) (free 12 42 2) _ x (q 12 42 2)
+    (either-row g (eqb n 13) (free 13 108 141) _ x (q 13 108 141) p)))))))
 
 -- ---- where the items stand
 
 -- the table of first bytes, and that of lengths, from number 0 on
 abbrev pub firsts : List ℕ
-firsts = 0 ∷ 1 ∷ 9 ∷ 18 ∷ 22 ∷ 26 ∷ 27 ∷ 28 ∷ 29 ∷ 30 ∷ 34 ∷ 38 ∷ 42 ∷ []
+firsts = 0 ∷ 1 ∷ 9 ∷ 18 ∷ 22 ∷ 26 ∷ 27 ∷ 28 ∷ 29 ∷ 30 ∷ 34 ∷ 38 ∷ 42 ∷ 108 ∷ []
 
 abbrev pub lengths : List ℕ
-lengths = 0 ∷ 8 ∷ 9 ∷ 4 ∷ 4 ∷ 1 ∷ 1 ∷ 1 ∷ 1 ∷ 4 ∷ 4 ∷ 4 ∷ 2 ∷ []
+lengths = 0 ∷ 8 ∷ 9 ∷ 4 ∷ 4 ∷ 1 ∷ 1 ∷ 1 ∷ 1 ∷ 4 ∷ 4 ∷ 4 ∷ 2 ∷ 141 ∷ []
 
 stands : ℕ → Bool
 stands n = eqb (getD firsts n 0) (placeOf n .first) && (eqb (getD lengths n 0) (placeOf n .length) && ltb (placeOf n .first) 256)
 
-all-stand : T (below stands 13)
+all-stand : T (below stands 14)
 unfolding stands placeOf placeIn rowOf items
 all-stand = tt
 
-module _ (n : ℕ) (h : n < 13) where
+module _ (n : ℕ) (h : n < 14) where
   first-stands : T (eqb (getD firsts n 0) (placeOf n .first))
   unfolding stands
-  first-stands = both-left (eqb (getD firsts n 0) (placeOf n .first)) (eqb (getD lengths n 0) (placeOf n .length) && ltb (placeOf n .first) 256) (below-at stands 13 all-stand n h)
+  first-stands = both-left (eqb (getD firsts n 0) (placeOf n .first)) (eqb (getD lengths n 0) (placeOf n .length) && ltb (placeOf n .first) 256) (below-at stands 14 all-stand n h)
 
   rest-stands : T (eqb (getD lengths n 0) (placeOf n .length) && ltb (placeOf n .first) 256)
   unfolding stands
-  rest-stands = both-right (eqb (getD firsts n 0) (placeOf n .first)) _ (below-at stands 13 all-stand n h)
+  rest-stands = both-right (eqb (getD firsts n 0) (placeOf n .first)) _ (below-at stands 14 all-stand n h)
 
   pub first-at : getD firsts n 0 ≡ placeOf n .first
   first-at = eqb→eq (getD firsts n 0) (placeOf n .first) first-stands
@@ -110,7 +139,7 @@ module _ (n : ℕ) (h : n < 13) where
 
 pub place-lt : (n : ℕ) → placeOf n .first < 256
 unfolding placeOf placeIn
-place-lt n = ⊎-elim (λ h. first-lt n h) (λ h. rw (row-none n (omega arith)) (omega arith)) (lt-or-le n 13)
+place-lt n = ⊎-elim (λ h. first-lt n h) (λ h. rw (row-none n (omega arith)) (omega arith)) (lt-or-le n 14)
 
 -- an item that is there is not refused
 known-passed : (o : Option Row) → T (known o) → Passed ≡ placeIn o .checked
@@ -118,7 +147,7 @@ unfolding known placeIn
 known-passed none t = absurd t
 known-passed (some i) t = refl
 
-pub place-known : (n : ℕ) → 0 < n → n ≤ 12 → Passed ≡ placeOf n .checked
+pub place-known : (n : ℕ) → 0 < n → n ≤ 13 → Passed ≡ placeOf n .checked
 unfolding placeOf
 place-known n p h = known-passed (rowOf n items) (row-known n p h)
 
@@ -127,10 +156,6 @@ pub long-at : {n k l : ℕ} → l ≡ placeOf n .length → n ≡ k → l ≡ pl
 long-at e same = e ∙ ap (λ (m : ℕ). placeOf m .length) same
 
 -- ---- the checks of an item's bytes
-
-pub row-zero : rowOf 0 items ≡ none
-unfolding rowOf items
-row-zero = refl
 
 -- no such item
 unplaced : (bytes : List ℕ) (o : Option Row) (why : Refusal) → placeIn o .checked ≡ Refused why → placeIn o .checked ≡ checkedOf (refusedIn bytes o)

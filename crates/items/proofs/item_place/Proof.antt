@@ -19,7 +19,7 @@ returns-2 c = rw (c .no-item2 .ensures, row-none _ (c .before .if2 .taken))
 returns-3 : tie.Need-returns-3
 returns-3 c =
     let n = c .before .before .args .number in
-    let h : n < 13 = omega arith in
+    let h : n < 14 = omega arith in
     λ i. record { checked = place-known n (omega arith) (omega arith) i; first = first-at n h i; length = length-at n h i }
 
 pub item-place-spec : {M : Type 1} → statement M

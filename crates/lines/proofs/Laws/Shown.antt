@@ -4,7 +4,6 @@ use mathlib.Core.Path.{_≡_, refl, sym, ap, _∙_}
 use mathlib.Core.List.{List, [], _∷_, _++_}
 use mathlib.Core.Option.{Option, none, some}
 use Prim.Native.Nat.{ℕ, suc, _+_, _-_, _≤_, _<_}
-use native.Mathlib.Numerals.{add-one}
 use native.Mathlib.Omega.{arith}
 use Rattle.refusal.specs.Number.{numberOf, refusalAt}
 use Rattle.refusal.specs.declared.Wrong.{Wrong}
@@ -21,9 +20,13 @@ use Rattle.b40.specs.declared.Unpacked.{Unpacked}
 use Rattle.b40.specs.declared.Unpacked.the-variants.{Done, Refused as NotDone}
 use Rattle.b40.specs.Field.{wordsOf}
 use Rattle.b40.specs.Unpacking.{unpackRefusal, headOf, unpackedBy, unpackedOf, unpackLeaves}
-use lib.ListN.{length}
+use lib.Dec.{T, eqb, eqb→eq}
+use lib.ListN.{length, getD, drop, drop-of-length-le}
+use lib.Seq.{drop-cons}
+use Rattle.basics.proofs.Laws.Test.{below, below-at}
+use Rattle.items.specs.Items.{items}
 use Rattle.lines.specs.Text.{decimal, hexBytes, places, blank, written}
-use Rattle.lines.specs.Shown.{space, newline, refusedWord, threeLine, refusedLine, fieldLine, packetLine, itemLine, itemLines, packetLines, fieldLines, shown}
+use Rattle.lines.specs.Shown.{space, newline, refusedWord, threeLine, refusedLine, fieldLine, packetLine, itemLine, itemLines, numbers, packetLines, fieldLines, shown}
 use Rattle.lines.specs.declared.page.Page.{Page}
 use Rattle.lines.proofs.Laws.Page.{written-append, Sized, blank-sized, written-sized}
 
@@ -51,26 +54,41 @@ pub item-parts : (p0 p1 p2 p3 : Page) (rec part : List ℕ) (number : ℕ) → p
 unfolding itemLine
 item-parts p0 p1 p2 p3 rec part number e1 ep e2 e3 = rw (e3, e2, ep, e1) (simp written-append)
 
--- the item at n, and then the rest of the twelve
-next-item : (p : Page) (rec : List ℕ) (k n : ℕ) → written p (itemLines (suc k) n rec) ≡ written (written p (itemLine rec n)) (itemLines k (suc n) rec)
+-- the items are numbered from 1 on
+all-numbered : T (below (λ (k : ℕ). eqb (getD numbers k 0) (suc k)) 13)
+unfolding numbers items
+all-numbered = tt
+
+thirteen : length numbers ≡ 13
+unfolding numbers items
+thirteen = refl
+
+-- the item at n stands before the rest of the table
+number-at : (n : ℕ) → 1 ≤ n → n ≤ 13 → drop (n - 1) numbers ≡ n ∷ drop (n + 1 - 1) numbers
+number-at n p h =
+    let k : suc (n - 1) ≡ n = omega arith in
+    let m : n + 1 - 1 ≡ n = omega arith in
+    let e : getD numbers (n - 1) 0 ≡ suc (n - 1) = eqb→eq _ _ (below-at (λ (k : ℕ). eqb (getD numbers k 0) (suc k)) 13 all-numbered (n - 1) (omega arith)) in
+    drop-cons numbers (n - 1) 0 (omega (arith, thirteen)) ∙ rw (e, k, m)
+
+-- the item at n is written, and then the rest of them
+next-item : (p : Page) (rec : List ℕ) (n : ℕ) (ns : List ℕ) → written p (itemLines (n ∷ ns) rec) ≡ written (written p (itemLine rec n)) (itemLines ns rec)
 unfolding itemLines
-next-item p rec k n = written-append p (itemLine rec n) _
+next-item p rec n ns = written-append p (itemLine rec n) _
 
-pub items-step : (p : Page) (rec : List ℕ) (n : ℕ) → n ≤ 12 → written p (itemLines (13 - n) n rec) ≡ written (written p (itemLine rec n)) (itemLines (13 - (n + 1)) (n + 1) rec)
-items-step p rec n h =
-    let e : 13 - n ≡ suc (12 - n) = omega arith in
-    let f : 13 - (n + 1) ≡ 12 - n = omega arith in
-    rw (e, f, add-one n) (next-item p rec (12 - n) n)
+pub items-step : (p : Page) (rec : List ℕ) (n : ℕ) → 1 ≤ n → n ≤ 13
+    → written p (itemLines (drop (n - 1) numbers) rec) ≡ written (written p (itemLine rec n)) (itemLines (drop (n + 1 - 1) numbers) rec)
+items-step p rec n h k = rw (number-at n h k) (next-item p rec n (drop (n + 1 - 1) numbers))
 
-pub items-end : (p : Page) (rec : List ℕ) (n : ℕ) → 12 < n → written p (itemLines (13 - n) n rec) ≡ p
+pub items-end : (p : Page) (rec : List ℕ) (n : ℕ) → 13 < n → written p (itemLines (drop (n - 1) numbers) rec) ≡ p
 unfolding itemLines written
-items-end p rec n h = let e : 13 - n ≡ 0 = omega arith in rw e
+items-end p rec n h = rw (drop-of-length-le numbers {i = n - 1} (omega (arith, thirteen)))
 
 -- ---- a packet, by what reading it answered and left
 
 module _ (h : Head) (ws old : List ℕ) (r : Reading) (n : length old ≡ 248) (er : r ≡ readingIntoOf ws (length old)) where
   pub packet-shown : (p : Packet) (rec : List ℕ) (p0 p1 p2 : Page) → r ≡ Accepted p → rec ≡ readLeaves ws old → p0 ≡ written blank (fieldLine (h .yc) (h .line) (h .offset))
-      → p1 ≡ written p0 (packetLine p) → p2 ≡ written p1 (itemLines 12 1 rec) → p2 ≡ written blank (packetLines h ws)
+      → p1 ≡ written p0 (packetLine p) → p2 ≡ written p1 (itemLines numbers rec) → p2 ≡ written blank (packetLines h ws)
   unfolding packetLines
   packet-shown p rec p0 p1 p2 e er′ e0 e1 e2 =
       let A = accepted-is ws old r n er p e in

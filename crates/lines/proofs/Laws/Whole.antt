@@ -4,7 +4,7 @@ use mathlib.Core.Path.{_≡_, refl, sym, ap, _∙_}
 use mathlib.Core.Bool.{Bool, true, false, cond}
 use mathlib.Core.List.{List, [], _∷_, _++_, append-nil}
 use mathlib.Core.Option.{Option, none, some}
-use Prim.Native.Nat.{ℕ, zero, suc, _+_, _*_, _≤_, _<_}
+use Prim.Native.Nat.{ℕ, _+_, _*_, _≤_, _<_}
 use native.Mathlib.Numerals.{add-one}
 use native.Mathlib.Omega.{arith}
 use borrow.Author.Tests.{lt-ltb}
@@ -24,7 +24,7 @@ use Rattle.b40.specs.declared.Head.{Head}
 use Rattle.b40.specs.Field.{wordsOf}
 use Rattle.b40.specs.Unpacking.{unpackRefusal, headOf}
 use Rattle.lines.specs.Text.{decimal, hexByte, hexBytes, places, blank, pushed, written}
-use Rattle.lines.specs.Shown.{refusedWord, fieldWord, packetWord, threeLine, refusedLine, fieldLine, packetLine, itemLine, itemLines, flagOf, linesBy, fieldLines, shown}
+use Rattle.lines.specs.Shown.{refusedWord, fieldWord, packetWord, threeLine, refusedLine, fieldLine, packetLine, itemLine, itemLines, numbers, flagOf, linesBy, fieldLines, shown}
 use Rattle.lines.specs.declared.page.Page.{Page}
 use Rattle.lines.proofs.Laws.Page.{Sized, blank-sized, push-sized}
 
@@ -68,20 +68,20 @@ pub item-length : (rec : List ℕ) (number : ℕ) → length (itemLine rec numbe
 unfolding itemLine
 item-length rec number = simp (length-append, hex-length) (omega (arith, decimal-length number, lent-length number rec))
 
--- the places that so many items may take, from the given one on
-abbrev itemsTake : ℕ → ℕ → ℕ
-itemsTake zero number = 0
-itemsTake (suc k) number = 3 * placeOf number .length + 6 + itemsTake k (suc number)
+-- the places that the lines of these items may take
+abbrev itemsTake : List ℕ → ℕ
+itemsTake [] = 0
+itemsTake (number ∷ rest) = 3 * placeOf number .length + 6 + itemsTake rest
 
-pub items-length : (k number : ℕ) (rec : List ℕ) → length (itemLines k number rec) ≤ itemsTake k number
+pub items-length : (ns : List ℕ) (rec : List ℕ) → length (itemLines ns rec) ≤ itemsTake ns
 unfolding itemLines
-items-length zero number rec = omega arith
-items-length (suc k) number rec = simp length-append (omega (arith, item-length rec number, items-length k (suc number) rec))
+items-length [] rec = omega arith
+items-length (number ∷ rest) rec = simp length-append (omega (arith, item-length rec number, items-length rest rec))
 
--- the twelve
-pub twelve-length : (rec : List ℕ) → length (itemLines 12 1 rec) ≤ 201
-unfolding placeOf placeIn rowOf items
-twelve-length rec = items-length 12 1 rec
+-- and those of the whole table
+pub table-length : (rec : List ℕ) → length (itemLines numbers rec) ≤ 630
+unfolding numbers placeOf placeIn rowOf items
+table-length rec = items-length numbers rec
 
 -- ---- the lines of every field fit
 
@@ -90,7 +90,7 @@ unfolding fieldLine packetLine fieldWord packetWord
 lines-by none h words =
     let p : Packet = packetOf words in
     simp length-append
-    (omega (arith, three-length fieldWord (flagOf (h .yc)) (h .line) (h .offset), three-length packetWord (flagOf (p .correction)) (p .ci) (p .fixed), twelve-length (readRecord words)))
+    (omega (arith, three-length fieldWord (flagOf (h .yc)) (h .line) (h .offset), three-length packetWord (flagOf (p .correction)) (p .ci) (p .fixed), table-length (readRecord words)))
 lines-by (some why) h words = omega (arith, refused-length why)
 
 pub lines-fit : (field : List ℕ) → length (fieldLines field) ≤ places

@@ -4,33 +4,34 @@
 use mathlib.Core.Path.{_≡_, refl, sym, ap, _∙_}
 use Prim.Native.Nat.{_+_, _≤_, _-_}
 use native.Mathlib.Omega.{arith}
+use lib.ListN.{drop}
 use borrow.Author.Needs.{needs}
 use Rattle.lines.specs.Text.{written}
-use Rattle.lines.specs.Shown.{itemLines}
+use Rattle.lines.specs.Shown.{itemLines, numbers}
 use Rattle.lines.specs.declared.page.Page.{Page}
 use Rattle.lines.proofs.Laws.Shown.{items-step, items-end}
 use Rattle.lines.proofs.write_items.Statement.{statement}
 use Rattle.lines.proofs.write_items.Tie as tie
 
 abbrev Inv-loop : tie.InvT-loop
-Inv-loop rec out₀ number₀ out number = (number ≤ 13) × (written out₀ (itemLines 12 1 rec) ≡ written out (itemLines (13 - number) number rec))
+Inv-loop rec out₀ number₀ out number = (1 ≤ number) × (number ≤ 14) × (written out₀ (itemLines numbers rec) ≡ written out (itemLines (drop (number - 1) numbers) rec))
 
 abbrev μ-loop : tie.MeasureT-loop
-μ-loop rec out₀ number₀ out number = 13 - number
+μ-loop rec out₀ number₀ out number = 14 - number
 
 loop-holds : tie.Need-loop-holds Inv-loop μ-loop
-loop-holds c = (omega arith, refl)
+loop-holds c = (omega arith, omega arith, refl)
 
 loop-again : tie.Need-loop-again Inv-loop μ-loop
 loop-again c =
     let l = c .before .before .loop in
     let rec = c .before .before .before .before .args .rec .now in
-    (omega arith, l .inv .1 ∙ items-step (l .out) rec (l .number) (omega arith) ∙ ap (λ (p : Page). written p (itemLines (13 - (l .number + 1)) (l .number + 1) rec)) (sym (c .write-item .ensures)))
+    (omega arith, omega arith, l .inv .2 ∙ items-step (l .out) rec (l .number) (l .inv .0) (omega arith) ∙ ap (λ (p : Page). written p (itemLines (drop (l .number + 1 - 1) numbers) rec)) (sym (c .write-item .ensures)))
 
 returns : tie.Need-returns Inv-loop μ-loop
 returns c =
     let l = c .before .loop in
-    sym (l .inv .1 ∙ items-end (l .out) (c .before .before .before .args .rec .now) (l .number) (omega arith))
+    sym (l .inv .2 ∙ items-end (l .out) (c .before .before .before .args .rec .now) (l .number) (omega arith))
 
 pub write-items-spec : {M : Type 1} → statement M
 write-items-spec =

@@ -1,14 +1,43 @@
--- What is printed of a field is its lines, whole: nothing is cut for want of a place on the page.
+-- What is printed of a field is its lines, whole: nothing is cut for want of a place on the page; and they are fifteen where it is not refused.
 -- Assumes nothing.
-use mathlib.Core.Path.{_≡_}
+use mathlib.Core.Path.{_≡_, ap, _∙_}
 use mathlib.Core.List.{List}
+use mathlib.Core.Option.{Option, none}
 use Prim.Native.Nat.{ℕ}
-use lib.ListN.{take}
+use lib.ListN.{length, take}
+use Rattle.refusal.specs.Chain.{next}
+use Rattle.refusal.specs.declared.Refusal.{Refusal}
+use Rattle.refusal.proofs.Laws.Chain.{next-passed}
+use Rattle.record.specs.Record.{privatePart}
+use Rattle.record.proofs.Laws.Record.{record-length}
+use Rattle.reading.specs.Reading.{readBytes, readRefusal, readRecord}
+use Rattle.reading.proofs.Laws.Whole.{read-length}
+use Rattle.b40.specs.Field.{wordsOf}
+use Rattle.b40.specs.Unpacking.{unpackRefusal, headOf}
 use Rattle.lines.specs.declared.page.Page.{Page}
-use Rattle.lines.specs.Shown.{fieldLines}
+use Rattle.lines.specs.Shown.{linesBy, fieldLines, privateLine}
+use Rattle.lines.proofs.Laws.Counted.{firstLines, last-line, first-lines, private-one}
 use Rattle.lines.proofs.Laws.Whole.{shown-whole}
 use Rattle.promises.specs.Calls.{Shows}
+use Rattle.promises.specs.Private.{Fifteen}
 use Rattle.promises.proofs.Laws.Calls.{shows-is}
+use Rattle.promises.proofs.Laws.Private.{private-long}
 
 pub printed : (field : List ℕ) (page : Page) → Shows field page → take (page .length) (page .bytes) ≡ fieldLines field
 printed field page S = rw (shows-is field page S) (shown-whole field)
+
+-- of a field that is not refused, fifteen lines, the last of them `13` and the 141 bytes of its record's private area
+pub printed-fifteen : (field : List ℕ) (page : Page) → Shows field page → next (unpackRefusal field 262) (readRefusal (wordsOf field)) ≡ none
+    → Fifteen (take (page .length) (page .bytes)) (privateLine (readRecord (wordsOf field))) × (length (privatePart (readRecord (wordsOf field))) ≡ 141)
+unfolding fieldLines readRecord
+printed-fifteen field page S e =
+    let words : List ℕ = wordsOf field in
+    let long = record-length (readBytes words) (read-length words (next-passed (unpackRefusal field 262) (readRefusal words) e .1)) in (
+      record {
+        first = firstLines (headOf field) words;
+        whole = printed field page S ∙ ap (λ (o : Option Refusal). linesBy o (headOf field) words) e ∙ last-line (headOf field) words;
+        fourteen = first-lines (headOf field) words;
+        one = private-one (readRecord words);
+      },
+      private-long (readRecord words) long,
+    )

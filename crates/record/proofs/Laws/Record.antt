@@ -2,20 +2,20 @@
 -- the same but for the reserved area, and how it is written over the bytes.
 -- Assumes nothing.
 use mathlib.Core.Path.{_≡_, refl, sym, ap, _∙_}
-use mathlib.Core.List.{List, [], _++_, append-nil, append-assoc}
+use mathlib.Core.List.{List, [], _∷_, _++_, append-nil, append-assoc}
 use mathlib.Core.Option.{none}
 use Prim.Native.Nat.{ℕ, _+_, _<_}
 use native.Mathlib.Nat.{zero-add}
 use native.Mathlib.Omega.{arith}
 use lib.ListN.{length, getD, take, drop, replicate, length-append, length-drop, getD-replicate, take-append-drop}
-use lib.Seq.{length-take-le, take-at, drop-at, drop-drop, getD-drop}
+use lib.Seq.{length-take-le, take-all, take-at, drop-at, drop-drop, getD-drop}
 use lib.Dec.{lit<}
 use borrow.Author.Tests.{ne-eqb}
 use borrow.Rule.Slice.PartMut.{putMid}
 use Rattle.rules.specs.Rules.{pictureClean}
 use Rattle.record.specs.Reserved.{reservedArea}
-use Rattle.record.specs.Record.{cleaned, recordOf, broken, contentRefusal, recordRefusal}
-use Rattle.items.specs.Items.{items, part}
+use Rattle.record.specs.Record.{laidOut, recordOf, broken, contentRefusal, recordRefusal}
+use Rattle.items.specs.Items.{Row, items, part}
 use Rattle.record.specs.Written.{writtenRefusal, written}
 use Rattle.refusal.specs.Checked.{checkedOf}
 use Rattle.refusal.specs.Number.{refusalPlain}
@@ -61,28 +61,43 @@ runs-are a p q b z d la lp lq lb lz =
       private = after-z;
     }
 
+-- ---- a table laid out in two
+
+-- the number of the byte behind these items, the first of which is looked for from n on
+abbrev pastOf : ℕ → List Row → ℕ
+pastOf n [] = n
+pastOf n (i ∷ is) = pastOf (i .first + i .long) is
+
+laid-on : (n : ℕ) (is js : List Row) (bytes : List ℕ) → laidOut n (is ++ js) bytes ≡ laidOut n is bytes ++ laidOut (pastOf n is) js bytes
+unfolding laidOut
+laid-on n [] js bytes = refl
+laid-on n (i ∷ is) js bytes = rw (laid-on (i .first + i .long) is js bytes) (simp append-assoc)
+
 -- ---- the runs of the record
 
 -- the picture mode behind s bytes, cleaned
 abbrev pub modeAt : ℕ → List ℕ → List ℕ
 modeAt s bytes = pictureClean (take 4 (drop s bytes))
 
-middle-join : (l : List ℕ)
-    → take 1 (drop 25 l) ++ (take 1 (drop 26 l) ++ (take 1 (drop 27 l) ++ (take 1 (drop 28 l) ++ (take 4 (drop 29 l) ++ (take 4 (drop 33 l) ++ (take 4 (drop 37 l) ++ (take 2 (drop 41 l) ++ []))))))) ≡ take 18 (drop 25 l)
-middle-join l =
-    join l 25 1 17 _ (join l 26 1 16 _ (join l 27 1 15 _ (join l 28 1 14 _ (join l 29 4 10 _ (join l 33 4 6 _ (join l 37 4 2 _ (append-nil _)))))))
+-- a run, the one behind it, and what follows
+join-on : (l : List ℕ) (s n m : ℕ) (x : List ℕ) → take n (drop s l) ++ (take m (drop (s + n) l) ++ x) ≡ take (n + m) (drop s l) ++ x
+join-on l s n m x = sym (append-assoc (take n (drop s l)) (take m (drop (s + n) l)) x) ∙ ap (λ (r : List ℕ). r ++ x) (join l s n m _ refl)
 
-front-join : (l x : List ℕ) → take 8 l ++ (take 9 (drop 8 l) ++ x) ≡ take 17 l ++ x
-front-join l x = sym (append-assoc (take 8 l) (take 9 (drop 8 l)) x) ∙ ap (λ (r : List ℕ). r ++ x) (join l 0 8 9 _ refl)
+middle-join : (l x : List ℕ)
+    → take 1 (drop 25 l) ++ (take 1 (drop 26 l) ++ (take 1 (drop 27 l) ++ (take 1 (drop 28 l) ++ (take 4 (drop 29 l) ++ (take 4 (drop 33 l) ++ (take 4 (drop 37 l) ++ (take 2 (drop 41 l) ++ x))))))) ≡ take 18 (drop 25 l) ++ x
+middle-join l x =
+    join-on l 25 1 1 _ ∙ join-on l 25 2 1 _ ∙ join-on l 25 3 1 _ ∙ join-on l 25 4 4 _ ∙ join-on l 25 8 4 _ ∙ join-on l 25 12 4 _ ∙ join-on l 25 16 2 x
 
-cleaned-runs : (bytes : List ℕ) → cleaned items bytes ≡ take 17 bytes ++ (modeAt 17 bytes ++ (modeAt 21 bytes ++ take 18 (drop 25 bytes)))
-unfolding cleaned items part
-cleaned-runs bytes =
-    front-join bytes _ ∙ ap (λ (r : List ℕ). take 17 bytes ++ (modeAt 17 bytes ++ (modeAt 21 bytes ++ r))) (middle-join bytes)
+-- the private area as the item that it is
+abbrev pub privateRun : List ℕ → List ℕ
+privateRun bytes = take 141 (drop 107 bytes)
 
-pub record-runs : (bytes : List ℕ) → recordOf bytes ≡ runs (take 17 bytes) (modeAt 17 bytes) (modeAt 21 bytes) (take 18 (drop 25 bytes)) (replicate 64 0) (drop 107 bytes)
-unfolding recordOf
-record-runs bytes = rw (cleaned-runs bytes) (simp append-assoc)
+pub record-runs : (bytes : List ℕ) → recordOf bytes ≡ runs (take 17 bytes) (modeAt 17 bytes) (modeAt 21 bytes) (take 18 (drop 25 bytes)) (replicate 64 0) (privateRun bytes)
+unfolding recordOf laidOut items part
+record-runs bytes =
+    join-on bytes 0 8 9 _
+    ∙ ap (λ (r : List ℕ). take 17 bytes ++ (modeAt 17 bytes ++ (modeAt 21 bytes ++ r)))
+    (middle-join bytes _ ∙ ap (λ (r : List ℕ). take 18 (drop 25 bytes) ++ (replicate 64 0 ++ r)) (append-nil (privateRun bytes)))
 
 module _ (bytes : List ℕ) (h : length bytes ≡ 248) where
   l17 : length (take 17 bytes) ≡ 17
@@ -91,15 +106,30 @@ module _ (bytes : List ℕ) (h : length bytes ≡ 248) where
   l18 : length (take 18 (drop 25 bytes)) ≡ 18
   l18 = run-length bytes 25 18 (omega arith)
 
+  l141 : length (privateRun bytes) ≡ 141
+  l141 = run-length bytes 107 141 (omega arith)
+
+  -- all that is behind the reserved area
+  pub private-rest : privateRun bytes ≡ drop 107 bytes
+  private-rest = take-all 141 (drop 107 bytes) (simp length-drop (omega arith))
+
+  -- the items before the reserved area, that, and the private area
+  pub record-halves : recordOf bytes ≡ laidOut 1 (take 12 items) bytes ++ replicate 64 0 ++ drop 107 bytes
+  unfolding recordOf laidOut items part
+  record-halves =
+      laid-on 1 (take 12 items) (drop 12 items) bytes
+      ∙ ap (λ (d : List ℕ). laidOut 1 (take 12 items) bytes ++ (replicate 64 0 ++ d)) (append-nil (privateRun bytes) ∙ private-rest)
+      ∙ sym (append-assoc (laidOut 1 (take 12 items) bytes) (replicate 64 0) (drop 107 bytes))
+
   pub record-length : length (recordOf bytes) ≡ 248
   record-length =
       rw (record-runs bytes)
-      (simp (length-append, l17, clean-length, l18, length-drop) (omega arith))
+      (simp (length-append, l17, clean-length, l18, l141) (omega arith))
 
-  record-in-runs : Runs (recordOf bytes) (take 17 bytes) (modeAt 17 bytes) (modeAt 21 bytes) (take 18 (drop 25 bytes)) (replicate 64 0) (drop 107 bytes)
+  record-in-runs : Runs (recordOf bytes) (take 17 bytes) (modeAt 17 bytes) (modeAt 21 bytes) (take 18 (drop 25 bytes)) (replicate 64 0) (privateRun bytes)
   record-in-runs =
       rw (record-runs bytes)
-      (runs-are (take 17 bytes) (modeAt 17 bytes) (modeAt 21 bytes) (take 18 (drop 25 bytes)) (replicate 64 0) (drop 107 bytes)
+      (runs-are (take 17 bytes) (modeAt 17 bytes) (modeAt 21 bytes) (take 18 (drop 25 bytes)) (replicate 64 0) (privateRun bytes)
       l17 (clean-length (take 4 (drop 17 bytes))) (clean-length (take 4 (drop 21 bytes))) l18 refl)
 
   -- up to the picture modes it is the bytes
@@ -124,7 +154,7 @@ module _ (bytes : List ℕ) (h : length bytes ≡ 248) where
 
   -- the private area is the bytes
   pub record-private : drop 107 (recordOf bytes) ≡ drop 107 bytes
-  record-private = record-in-runs .private
+  record-private = record-in-runs .private ∙ private-rest
 
   -- ---- what stands at each place
 
@@ -186,7 +216,7 @@ module _ (bytes : List ℕ) (f : Bytes bytes) where
       (append-below 256 (pictureClean (take 4 (drop 17 bytes))) _ (mode-bytes 17)
       (append-below 256 (pictureClean (take 4 (drop 21 bytes))) _ (mode-bytes 21)
       (append-below 256 (take 18 (drop 25 bytes)) _ (take-below 256 18 (drop 25 bytes) (drop-below 256 25 bytes f))
-      (append-below 256 (replicate 64 0) (drop 107 bytes) (replicate-below 256 64 0 (lit< tt)) (drop-below 256 107 bytes f))))))
+      (append-below 256 (replicate 64 0) (privateRun bytes) (replicate-below 256 64 0 (lit< tt)) (take-below 256 141 (drop 107 bytes) (drop-below 256 107 bytes f)))))))
 
 -- ---- how it is written: the bytes, and over them the two picture modes and the zeros
 
@@ -200,11 +230,11 @@ three-over a p r q b s z la lp lq lb e =
     rw one (over (a ++ (p ++ (q ++ b))) s z 43 64 l43 ∙ simp append-assoc)
 
 over-bytes : (bytes p q z : List ℕ) → length bytes ≡ 248 → length p ≡ 4 → length q ≡ 4
-    → putMid 43 64 (putMid 21 4 (putMid 17 4 bytes p) q) z ≡ runs (take 17 bytes) p q (take 18 (drop 25 bytes)) z (drop 107 bytes)
+    → putMid 43 64 (putMid 21 4 (putMid 17 4 bytes p) q) z ≡ runs (take 17 bytes) p q (take 18 (drop 25 bytes)) z (privateRun bytes)
 over-bytes bytes p q z h lp lq =
     let rest : drop 4 (drop 4 (drop 17 bytes)) ≡ take 18 (drop 25 bytes) ++ drop 43 bytes =
     rw (drop-drop 4 17 bytes, drop-drop 4 21 bytes, ← drop-drop 18 25 bytes) (sym (take-append-drop 18 (drop 25 bytes))) in
-    let last : drop 64 (drop 43 bytes) ≡ drop 107 bytes = drop-drop 64 43 bytes in
+    let last : drop 64 (drop 43 bytes) ≡ privateRun bytes = drop-drop 64 43 bytes ∙ sym (private-rest bytes h) in
     three-over (take 17 bytes) p (drop 4 (drop 17 bytes)) q (take 18 (drop 25 bytes)) (drop 43 bytes) z (l17 bytes h) lp lq (l18 bytes h) rest ∙ rw last
 
 module _ (bytes out : List ℕ) where

@@ -23,8 +23,8 @@ use Rattle.basics.proofs.Laws.Below.{entry-below, append-below, take-below, dro
 use Rattle.basics.proofs.Laws.Test.{both-left, both-right}
 use Rattle.rules.specs.Rules.{pictureRule, pictureClean}
 use Rattle.record.specs.Reserved.{reservedArea}
-use Rattle.record.specs.Record.{recordOf, broken, contentRefusal, bytesOn}
-use Rattle.items.specs.Items.{Row, items, part}
+use Rattle.record.specs.Record.{recordOf, broken, contentRefusal, bytesOn, privatePart, privateStart}
+use Rattle.items.specs.Items.{Row, free, items, part}
 use Rattle.items.specs.declared.ItemPlace.{ItemPlace}
 use Rattle.items.specs.Item.{rowOf, refusedIn, itemRefusal, placeIn, placeOf, put, cleanIn, cleanOf, partIn, itemPart, putIn, putItem}
 use Rattle.record.specs.Stored.{itemLent, itemStart, putRefusedIn, putRefusal, putLeaves, storeRefusal, storeLeaves}
@@ -34,7 +34,7 @@ use Rattle.refusal.specs.declared.Checked.the-variants.{Passed, Refused}
 use Rattle.record.proofs.Laws.Reserved.{zero-content, content-rules}
 use Rattle.record.proofs.Laws.Put.{put-length, put-before, put-there, put-behind, put-back, before, behind}
 use Rattle.rules.proofs.Laws.Clean.{clean-length, clean-bytes, clean-again, clean-rule}
-use Rattle.record.proofs.Laws.Record.{runs, record-runs, record-length, record-idem, record-content, record-current, record-next, record-reserved}
+use Rattle.record.proofs.Laws.Record.{runs, record-runs, privateRun, private-rest, record-length, record-idem, record-content, record-current, record-next, record-reserved}
 
 -- ---- what is so of each row of a table
 
@@ -65,9 +65,18 @@ end i = start i + i .long
 abbrev pub isMode : ℕ → Bool
 isMode n = eqb n 3 || eqb n 4
 
+-- do two items share no byte?
+abbrev apart : Row → Row → Bool
+apart i j = leb (end i) (start j) || leb (end j) (start i)
+
+-- the reserved area, as a row of no table
+abbrev reserved : Row
+reserved = free 0 44 64
+
 pub record Sits (i : Row) : Type 0 where
   pub counted : 1 ≤ i .first
-  pub inside : end i ≤ 43
+  pub inside : end i ≤ 248
+  pub clear : T (apart i reserved)
   pub long : (b : List ℕ) → length b ≡ i .long → length (i .clean b) ≡ i .long
   pub again : (b : List ℕ) → i .clean (i .clean b) ≡ i .clean b
   pub rule : (b : List ℕ) → i .rule (i .clean b) ≡ i .rule b
@@ -75,12 +84,13 @@ pub record Sits (i : Row) : Type 0 where
   pub plain : isMode (i .number) ≡ false → (b : List ℕ) → i .clean b ≡ b
 
 module _ (n f : ℕ) (c : T (leb 1 f)) where
-  as-it-is : (l : ℕ) (why : Reason) (r : List ℕ → Bool) → T (leb (f - 1 + l) 43) → isMode n ≡ false
+  as-it-is : (l : ℕ) (why : Reason) (r : List ℕ → Bool) → T (leb (f - 1 + l) 248) → T (apart (free n f l) reserved) → isMode n ≡ false
       → Sits (record { number = n; first = f; long = l; rule = r; reason = why; clean = λ bytes. bytes })
-  as-it-is l why r h m =
+  as-it-is l why r h a m =
       record {
         counted = leb→le 1 f c;
-        inside = leb→le (f - 1 + l) 43 h;
+        inside = leb→le (f - 1 + l) 248 h;
+        clear = a;
         long = λ b e. e;
         again = λ b. refl;
         rule = λ b. refl;
@@ -88,12 +98,13 @@ module _ (n f : ℕ) (c : T (leb 1 f)) where
         plain = λ z b. refl;
       }
 
-  a-mode : T (leb (f - 1 + 4) 43) → isMode n ≡ true
+  a-mode : T (leb (f - 1 + 4) 248) → T (apart (free n f 4) reserved) → isMode n ≡ true
       → Sits (record { number = n; first = f; long = 4; rule = pictureRule; reason = Picture; clean = pictureClean })
-  a-mode h m =
+  a-mode h a m =
       record {
         counted = leb→le 1 f c;
-        inside = leb→le (f - 1 + 4) 43 h;
+        inside = leb→le (f - 1 + 4) 248 h;
+        clear = a;
         long = λ b e. clean-length b;
         again = clean-again;
         rule = clean-rule;
@@ -104,28 +115,28 @@ module _ (n f : ℕ) (c : T (leb 1 f)) where
 all-sit : Each Sits items
 unfolding items
 all-sit = (
-  as-it-is 1 1 tt 8 _ _ tt refl,
+  as-it-is 1 1 tt 8 _ _ tt tt refl,
   (
-    as-it-is 2 9 tt 9 _ _ tt refl,
+    as-it-is 2 9 tt 9 _ _ tt tt refl,
     (
-      a-mode 3 18 tt tt refl,
+      a-mode 3 18 tt tt tt refl,
       (
-        a-mode 4 22 tt tt refl,
+        a-mode 4 22 tt tt tt refl,
         (
-          as-it-is 5 26 tt 1 _ _ tt refl,
+          as-it-is 5 26 tt 1 _ _ tt tt refl,
           (
-            as-it-is 6 27 tt 1 _ _ tt refl,
+            as-it-is 6 27 tt 1 _ _ tt tt refl,
             (
-              as-it-is 7 28 tt 1 _ _ tt refl,
+              as-it-is 7 28 tt 1 _ _ tt tt refl,
               (
-                as-it-is 8 29 tt 1 _ _ tt refl,
+                as-it-is 8 29 tt 1 _ _ tt tt refl,
                 (
-                  as-it-is 9 30 tt 4 _ _ tt refl,
+                  as-it-is 9 30 tt 4 _ _ tt tt refl,
                   (
-                    as-it-is 10 34 tt 4 _ _ tt refl,
+                    as-it-is 10 34 tt 4 _ _ tt tt refl,
                     (
-                      as-it-is 11 38 tt 4 _ _ tt refl,
-                      (as-it-is 12 42 tt 2 _ _ tt refl, tt),
+                      as-it-is 11 38 tt 4 _ _ tt tt refl,
+                      (as-it-is 12 42 tt 2 _ _ tt tt refl, (as-it-is 13 108 tt 141 _ _ tt tt refl, tt)),
                     ),
                   ),
                 ),
@@ -151,10 +162,6 @@ pub sits : (n : ℕ) (i : Row) → rowOf n items ≡ some i → Sits i
 sits n i e = found Sits items n i all-sit e
 
 -- ---- an item's place, and those apart from it
-
--- do two items share no byte?
-abbrev apart : Row → Row → Bool
-apart i j = leb (end i) (start j) || leb (end j) (start i)
 
 -- does an item share no byte with any of these, and do none of these share one?
 abbrev allApart : Row → List Row → Bool
@@ -283,9 +290,9 @@ record-clean bytes n b = record { long = record-length bytes n; rules = record-c
 seam : (l : List ℕ) (s n : ℕ) → take n (drop s l) ++ drop (s + n) l ≡ drop s l
 seam l s n = rw (← drop-drop n s l) (take-append-drop n (drop s l))
 
-rejoin : (r p q z : List ℕ) → p ≡ take 4 (drop 17 r) → q ≡ take 4 (drop 21 r) → z ≡ take 64 (drop 43 r)
-    → runs (take 17 r) p q (take 18 (drop 25 r)) z (drop 107 r) ≡ r
-rejoin r p q z ep eq ez = rw (ep, eq, ez, seam r 43 64, seam r 25 18, seam r 21 4, seam r 17 4) (take-append-drop 17 r)
+rejoin : (r p q z d : List ℕ) → p ≡ take 4 (drop 17 r) → q ≡ take 4 (drop 21 r) → z ≡ take 64 (drop 43 r) → d ≡ drop 107 r
+    → runs (take 17 r) p q (take 18 (drop 25 r)) z d ≡ r
+rejoin r p q z d ep eq ez ed = rw (ep, eq, ez, ed, seam r 43 64, seam r 25 18, seam r 21 4, seam r 17 4) (take-append-drop 17 r)
 
 module _ (r : List ℕ) (h : length r ≡ 248) where
   -- of its own record, each item has nothing left to set to zero, and the reserved area is zero
@@ -294,7 +301,7 @@ module _ (r : List ℕ) (h : length r ≡ 248) where
   own-items e =
       let current : take 4 (drop 17 r) ≡ pictureClean (take 4 (drop 17 r)) = ap (λ (l : List ℕ). take 4 (drop 17 l)) (sym e) ∙ record-current r h in
       let next : take 4 (drop 21 r) ≡ pictureClean (take 4 (drop 21 r)) = ap (λ (l : List ℕ). take 4 (drop 21 l)) (sym e) ∙ record-next r h in
-      (refl, (refl, (sym current, (sym next, (refl, (refl, (refl, (refl, (refl, (refl, (refl, (refl, tt))))))))))))
+      (refl, (refl, (sym current, (sym next, (refl, (refl, (refl, (refl, (refl, (refl, (refl, (refl, (refl, tt)))))))))))))
 
   own-reserved : recordOf r ≡ r → reservedArea r ≡ replicate 64 0
   own-reserved e = ap reservedArea (sym e) ∙ record-reserved r h
@@ -302,12 +309,12 @@ module _ (r : List ℕ) (h : length r ≡ 248) where
   -- and so it is its own record
   own-by : Each (Kept r) items → reservedArea r ≡ replicate 64 0 → recordOf r ≡ r
   unfolding items part reservedArea
-  own-by k z = record-runs r ∙ rejoin r _ _ _ (k .1 .1 .0 .clean) (k .1 .1 .1 .0 .clean) (sym z)
+  own-by k z = record-runs r ∙ rejoin r _ _ _ _ (k .1 .1 .0 .clean) (k .1 .1 .1 .0 .clean) (sym z) (private-rest r h)
 
--- bytes put before the reserved area leave it as it is
-put-reserved : (r new : List ℕ) (at : ℕ) → at + length new ≤ length r → at + length new ≤ 43 → reservedArea (put r at new) ≡ reservedArea r
-unfolding reservedArea
-put-reserved r new at fits h = behind (put r at new) r (at + length new) 43 64 (put-behind r new at fits) h
+-- bytes put into the place of an item leave the reserved area as it is
+put-reserved : (r new : List ℕ) (i : Row) → Sits i → length new ≡ i .long → end i ≤ length r → reservedArea (put r (start i) new) ≡ reservedArea r
+unfolding reservedArea part
+put-reserved r new i s l fits = part-apart r new i l fits reserved (s .clear)
 
 -- bytes that keep an item's rule, with nothing left to set to zero, put into its place in a clean record
 clean-put : (r new : List ℕ) (n : ℕ) (i : Row) → rowOf n items ≡ some i → Sits i → length new ≡ i .long → i .rule new ≡ true → i .clean new ≡ new
@@ -317,7 +324,7 @@ clean-put r new n i e s l good settled c =
     let at : start i + length new ≤ length r = omega arith in
     let long : length (put r (start i) new) ≡ 248 = put-length r new (start i) at ∙ c .long in
     let k = kept-put r new n i l fits good settled items items-apart e (each-kept r items (content-rules r (c .rules)) (own-items r (c .long) (c .own))) in
-    let z = put-reserved r new (start i) at (omega (arith, s .inside)) ∙ own-reserved r (c .long) (c .own) in
+    let z = put-reserved r new i s l fits ∙ own-reserved r (c .long) (c .own) in
     record {
       long = long;
       rules = zero-content (put r (start i) new) z ∙ rules-kept (put r (start i) new) items k;
@@ -334,7 +341,7 @@ by-row n P p f = go (rowOf n items) refl
     go none e = p
     go (some i) e = f i e (sits n i e)
 
--- an item's place is before the reserved area, or there is no such item
+-- an item's place, or there is no such item
 pub record Placed (p : ItemPlace) (o : Option Row) : Type 0 where
   pub row : Row
   pub is : o ≡ some row
@@ -343,9 +350,9 @@ pub record Placed (p : ItemPlace) (o : Option Row) : Type 0 where
   pub length : p .length ≡ row .long
 
 module _ (n : ℕ) (p : ItemPlace) (e : p ≡ placeOf n) where
-  pub place-inside : p .first - 1 + p .length ≤ 43
+  pub place-inside : p .first - 1 + p .length ≤ 248
   unfolding placeOf placeIn
-  place-inside = rw e (by-row n (λ o. placeIn o .first - 1 + placeIn o .length ≤ 43) (omega arith) (λ i f s. s .inside))
+  place-inside = rw e (by-row n (λ o. placeIn o .first - 1 + placeIn o .length ≤ 248) (omega arith) (λ i f s. s .inside))
 
   pub no-place : (why : Refusal) → p .checked ≡ Refused why → rowOf n items ≡ none
   unfolding placeOf placeIn
@@ -428,6 +435,19 @@ pub lent-start : (n : ℕ) (p : ItemPlace) (bytes : List ℕ) (at : ℕ × ℕ) 
     → bytesOn (p .first - 1) at ≡ bytesOn (itemStart n bytes) at
 unfolding itemStart
 lent-start n p bytes at e h = rw (e, eq-eqb (length bytes) 248 h)
+
+-- the private area is the part of item 13, and begins where that does
+pub private-item : (bytes : List ℕ) → itemLent 13 bytes ≡ privatePart bytes
+unfolding itemLent itemPart partIn rowOf items part privatePart
+private-item bytes = by (eqb (length bytes) 248) refl
+  where
+    by : (t : Bool) → eqb (length bytes) 248 ≡ t → cond t (privateRun bytes) [] ≡ cond t (drop 107 bytes) []
+    by true e = private-rest bytes (eqb-true (length bytes) 248 e)
+    by false e = refl
+
+pub private-begins : (bytes : List ℕ) → itemStart 13 bytes ≡ privateStart bytes
+unfolding itemStart placeOf placeIn rowOf items privateStart
+private-begins bytes = refl
 
 -- bytes laid over the item's place
 laid-by : (n f l : ℕ) (i : Row) (bytes old new : List ℕ) → rowOf n items ≡ some i → f ≡ i .first → l ≡ length bytes → new ≡ bytes

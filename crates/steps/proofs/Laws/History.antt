@@ -1,6 +1,6 @@
 -- The history that steps stand for: the records before each of them, the newest first, and what one more step, or one fewer, makes of it.
 -- Assumes nothing.
-use mathlib.Core.Path.{_≡_, refl, ap, _∙_}
+use mathlib.Core.Path.{_≡_, refl, sym, ap, _∙_}
 use mathlib.Core.Bool.{Bool, true, false, cond}
 use mathlib.Core.List.{List, [], _∷_, _++_, reverse, reverse-append, reverseAux-eq}
 use mathlib.Core.Logic.{⊎-elim}
@@ -94,6 +94,10 @@ unfolding countOn
 count-more count h l r e =
     ⊎-elim (λ k. simp (lt-ltb count 32 k, length-take) (omega arith)) (λ k. simp (le-ltb count 32 k, length-take) (omega arith)) (lt-or-le count 32)
 
+count-some : (count : ℕ) → 0 < countOn count
+unfolding countOn
+count-some count = ⊎-elim (λ k. simp (lt-ltb count 32 k) (omega arith)) (λ k. simp (le-ltb count 32 k) (omega arith)) (lt-or-le count 32)
+
 pub count-few : (count : ℕ) → count ≤ 32 → countOn count ≤ 32
 unfolding countOn
 count-few count h = ⊎-elim (λ k. simp (lt-ltb count 32 k) (omega arith)) (λ k. simp (le-ltb count 32 k) (omega arith)) (lt-or-le count 32)
@@ -118,3 +122,9 @@ pop steps count some few =
     let e : count ≡ suc (count - 1) = omega arith in
     let h : count - 1 < length steps = omega arith in
     ap (λ (n : ℕ). reverse (take n steps)) e ∙ rw (take-suc steps (count - 1) blank h, turn)
+
+-- the step that was pushed is the latest
+pub push-latest : (steps : List Step) (count : ℕ) (s : Step) → length steps ≡ 32 → count ≤ 32 → getD (pushed steps count s) (countOn count - 1) blank ≡ s
+push-latest steps count s n h =
+    let popped = pop (pushed steps count s) (countOn count) (count-some count) (omega (arith, pushed-length steps count s n, count-few count h)) in
+    ap (λ (l : List Step). getD l 0 blank) (sym popped ∙ push-newest steps count s n h)

@@ -29,14 +29,14 @@ use Rattle.steps.specs.Steps.{stepRoom, padded, stepOf, stepRefusal, kep
 
 -- ---- a step
 
-all-short : T (below (λ (n : ℕ). leb (placeOf n .length) stepRoom) 13)
+all-short : T (below (λ (n : ℕ). leb (placeOf n .length) stepRoom) 14)
 unfolding placeOf placeIn rowOf items
 all-short = tt
 
 -- a step has room for every item
 pub short : (n : ℕ) → placeOf n .length ≤ stepRoom
 unfolding placeOf placeIn
-short n = ⊎-elim (λ h. leb→le (placeOf n .length) stepRoom (below-at (λ (n : ℕ). leb (placeOf n .length) stepRoom) 13 all-short n h)) (λ h. rw (row-none n (omega arith)) (omega arith)) (lt-or-le n 13)
+short n = ⊎-elim (λ h. leb→le (placeOf n .length) stepRoom (below-at (λ (n : ℕ). leb (placeOf n .length) stepRoom) 14 all-short n h)) (λ h. rw (row-none n (omega arith)) (omega arith)) (lt-or-le n 14)
 
 -- and so for what is handed out of any number of bytes
 pub lent-short : (n : ℕ) (bytes : List ℕ) → length (itemLent n bytes) ≤ stepRoom

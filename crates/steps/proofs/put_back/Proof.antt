@@ -5,6 +5,7 @@ use Prim.Native.Nat.{_≤_}
 use native.Mathlib.Omega.{arith}
 use lib.ListN.{length}
 use Rattle.items.specs.declared.ItemPlace.{ItemPlace}
+use Rattle.steps.specs.Steps.{stepRoom}
 use Rattle.steps.proofs.Laws.Parts.{short, back-put}
 use borrow.Author.Needs.{needs}
 use Rattle.steps.proofs.put_back.Statement.{statement}
@@ -14,7 +15,7 @@ part-put-item-end : tie.Need-part-put-item-end
 part-put-item-end c =
     let s = c .before .before .before .before .args .step in
     let e = ap (λ (p : ItemPlace). p .length) (c .before .item-place .ensures) in
-    let n : length (s .old) ≡ 9 = search needs in
+    let n : length (s .old) ≡ stepRoom = search needs in
     let h : c .before .item-place .result .length ≤ length (s .old) = omega (arith, short (s .item)) in
     h
 

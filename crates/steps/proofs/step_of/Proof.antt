@@ -6,13 +6,14 @@ use mathlib.Core.List.{_++_}
 use Prim.Native.Nat.{_-_, _≤_}
 use native.Mathlib.Omega.{arith}
 use lib.ListN.{length, take, drop, replicate}
+use Rattle.steps.specs.Steps.{stepRoom}
 use Rattle.steps.proofs.Laws.Parts.{lent-short, copy-more, step-copied, kept-is}
 use borrow.Author.Needs.{needs}
 use Rattle.steps.proofs.step_of.Statement.{statement}
 use Rattle.steps.proofs.step_of.Tie as tie
 
 abbrev Inv-loop : tie.InvT-loop
-Inv-loop item bytes checked part old₀ i₀ old i = (i ≤ length part) × (length part ≤ 9) × (old ≡ take i part ++ drop i (replicate 9 0))
+Inv-loop item bytes checked part old₀ i₀ old i = (i ≤ length part) × (length part ≤ stepRoom) × (old ≡ take i part ++ drop i (replicate stepRoom 0))
 
 abbrev μ-loop : tie.MeasureT-loop
 μ-loop item bytes checked part old₀ i₀ old i = length part - i
@@ -25,7 +26,7 @@ loop-holds c =
 loop-again : tie.Need-loop-again Inv-loop μ-loop
 loop-again c =
     let l = c .before .before .loop in
-    (search needs, search needs, rw (l .inv .2) (copy-more 0 _ (replicate 9 0) (l .i) (omega arith) (omega arith)))
+    (search needs, search needs, rw (l .inv .2) (copy-more 0 _ (replicate stepRoom 0) (l .i) (omega arith) (omega arith)))
 
 returns : tie.Need-returns Inv-loop μ-loop
 returns c =

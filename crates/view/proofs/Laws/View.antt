@@ -13,7 +13,7 @@ use lib.ListN.{length, take, drop, getD, replicate}
 use borrow.Author.Tests.{eqb-true, leb-true, not-true}
 use Rattle.refusal.specs.Number.{refusalAt}
 use Rattle.rules.specs.Rules.{decimal, timeByte, sameSent, timeRule, onlyBit, lowHalf, bitFor, pictureRule, pictureClean}
-use Rattle.record.specs.Record.{cleaned, recordOf, broken}
+use Rattle.record.specs.Record.{laidOut, recordOf, broken}
 use Rattle.items.specs.Items.{Row, items, part}
 use Rattle.view.specs.declared.TimeWord.the-variants.{Sent, Unsent}
 use Rattle.view.specs.declared.Milliseconds.the-variants.{Sent as BothSent}
@@ -21,6 +21,7 @@ use Rattle.view.specs.declared.PictureMode.the-variants.{Used as APictur
 use Rattle.view.specs.declared.SoundMode.the-variants.{Unused as NoSound, Used as ASound}
 use Rattle.view.specs.View.{timeWordOf, millisecondsOf, timeOf, bitSet, pictureOf, soundOf, countdownOf, counterOf, countersOf, countdownsOf, pairOf, quadOf, viewOf, packed, timeWordByte, millisecondsBytes, timeBytes, bitBack, pictureBytes, soundModeByte, countdownByte, counterByte, countersBytes, countdownsBytes, pairBytes, quadBytes, bytesOf}
 use Rattle.refusal.proofs.Laws.Chain.{require-passed}
+use Rattle.record.proofs.Laws.Record.{record-halves}
 use Rattle.basics.proofs.Laws.Test.{both-true, never}
 use Rattle.basics.proofs.Laws.Parts.{entries, part-entries, same-cons}
 
@@ -358,9 +359,9 @@ module _ (bytes : List ℕ) (long : length bytes ≡ 248) where
   within n i h = part-entries n i bytes (omega arith)
 
   module _ (small : (i : ℕ) → getD bytes i 0 < 256) (keeps : broken items bytes ≡ none) where
-    -- the items, cleaned, are the way back from the view
-    items-back : cleaned items bytes ≡ bytesOf (viewOf bytes)
-    unfolding cleaned items part flatten bytesOf viewOf
+    -- the items before the private area, cleaned, are the way back from the view
+    items-back : laidOut 1 (take 12 items) bytes ≡ bytesOf (viewOf bytes)
+    unfolding laidOut items part flatten bytesOf viewOf
     items-back =
         let at : ℕ → ℕ = λ i. getD bytes i 0 in
         let kept : Keeps items bytes = none-broken items bytes keeps in
@@ -382,10 +383,9 @@ module _ (bytes : List ℕ) (long : length bytes ≡ 248) where
 
     -- the record, from the view and the private area
     pub view-whole : recordOf bytes ≡ bytesOf (viewOf bytes) ++ replicate 64 0 ++ drop 107 bytes
-    unfolding recordOf
-    view-whole = ap (λ (l : List ℕ). l ++ replicate 64 0 ++ drop 107 bytes) items-back
+    view-whole = record-halves bytes long ∙ ap (λ (l : List ℕ). l ++ replicate 64 0 ++ drop 107 bytes) items-back
 
-  -- the record's items as 43 entries
+  -- these items as 43 entries
   abbrev listed : List ℕ
   listed =
       entries 17 0 bytes
@@ -393,8 +393,8 @@ module _ (bytes : List ℕ) (long : length bytes ≡ 248) where
       ++ entries 4 0 (pictureClean (entries 4 21 bytes))
       ++ entries 18 25 bytes
 
-  items-listed : cleaned items bytes ≡ listed
-  unfolding cleaned items part
+  items-listed : laidOut 1 (take 12 items) bytes ≡ listed
+  unfolding laidOut items part
   items-listed =
       same-join (within 8 0 (omega arith))
       (same-join (within 9 8 (omega arith))
@@ -411,9 +411,9 @@ module _ (bytes : List ℕ) (long : length bytes ≡ 248) where
 
   -- the view doesn't see what cleaning takes away
   pub view-of-record : viewOf (recordOf bytes) ≡ viewOf bytes
-  unfolding recordOf viewOf timeOf countersOf countdownsOf
+  unfolding viewOf timeOf countersOf countdownsOf
   view-of-record =
-      ap (λ (l : List ℕ). viewOf (l ++ replicate 64 0 ++ drop 107 bytes)) items-listed
+      ap viewOf (record-halves bytes long ∙ ap (λ (l : List ℕ). l ++ replicate 64 0 ++ drop 107 bytes) items-listed)
       ∙ (λ i.
       record {
         station = sym (within 8 0 (omega arith)) i;
