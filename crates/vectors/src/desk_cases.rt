@@ -75,7 +75,7 @@ pub(crate) fn undos_after(edits: usize) -> Undone {
     Undone { count, number: 0 }
 }
 
-// The number of the refusal of an edit at a fresh desk with the first `count` of 141 bytes; 0 where there is none.
+// The number of the refusal of an edit at a fresh desk with the first `count` of 141 bytes; 0 where there is none, 255 where there are not so many bytes.
 pub(crate) fn edit_with(item: u8, count: usize) -> u64 {
     let mut bytes = [0u8; 141];
     day::fill(&mut bytes, 20261116);
