@@ -1,23 +1,26 @@
--- Demand 2: a desk shows, and sends, the record that its history gives.
+-- Demand 2: a desk shows, and sends, the record that its history gives; what an edit stores and keeps, and what undo gives back.
 -- Assumes nothing.
 use mathlib.Core.Path.{_≡_, refl, sym, ap, _∙_, subst}
 use mathlib.Core.Bool.{Bool, true, false}
 use mathlib.Core.List.{List}
 use mathlib.Core.Logic.{_⊎_, inl, inr}
 use mathlib.Core.Option.{none}
-use Prim.Native.Nat.{ℕ, _%_}
-use borrow.Author.Tests.{eqb-true}
+use Prim.Native.Nat.{ℕ, _-_, _%_}
+use borrow.Author.Tests.{eqb-true, eq-eqb}
 use lib.Dec.{eqb}
-use lib.ListN.{length}
+use lib.ListN.{length, getD}
 use Rattle.refusal.specs.declared.Checked.the-variants.{Passed}
-use Rattle.items.specs.Item.{itemRefusal}
+use Rattle.items.specs.Item.{itemRefusal, cleanOf, itemPart, putItem}
 use Rattle.basics.specs.Below.{Bytes}
 use Rattle.refusal.proofs.Laws.Chain.{told}
-use Rattle.record.proofs.Laws.Stored.{store-bytes}
+use Rattle.record.specs.Stored.{itemLent}
+use Rattle.record.proofs.Laws.Stored.{clean-long, put-item-length, put-item-part, store-bytes}
+use Rattle.steps.specs.Steps.{heldOf, pushed, countOn, blank, stepOf}
+use Rattle.steps.proofs.Laws.History.{held-few, count-few, push-latest}
 use Rattle.writing.specs.Layout.{packetWords}
 use Rattle.desk.specs.declared.Desk.{Desk}
 use Rattle.desk.specs.declared.Turn.{Turn}
-use Rattle.desk.specs.Desk.{edited, undone, sent, sendLeaves}
+use Rattle.desk.specs.Desk.{edited, latest, undone, sent, sendLeaves}
 use Rattle.desk.specs.Model.{Model, fresh, editM, undoTo, sendM}
 use Rattle.desk.proofs.Laws.Model.{Stands, Holds, open-stands, edit-stands, undo-stands, send-stands, send-by-room, sent-words, undo-edit, undo-index, edit-holds, undo-holds, send-holds, opening-bytes}
 use Rattle.promises.specs.Calls.{Edits, Undoes, Sends}
@@ -67,6 +70,42 @@ never-other on d m h old t left S = by (eqb (length old) 262) refl
     by : (b : Bool) → eqb (length old) 262 ≡ b → (left ≡ packetWords on (m .sends % 16) (m .present)) ⊎ (left ≡ old)
     by true e = inl (sent-is on d m h old t left S (eqb-true (length old) 262 e) .1)
     by false e = inr (sends-leaves d old t left S ∙ refused-leaves on d m (stands on d m h) old e)
+
+-- ---- what an accepted edit stores, and keeps in its step
+
+pub history-long : (on : Bool) (d : Desk) (m : Model) → History on d m → length (d .bytes) ≡ 248
+history-long on d m h = let s = stands on d m h in ap length (s .bytes) ∙ s .clean .present .long
+
+module _ (d : Desk) (item : ℕ) (bytes : List ℕ) (t : Turn) (E : Edits d item bytes t) (a : itemRefusal item bytes ≡ none) where
+  pub edit-done : t .checked ≡ Passed
+  unfolding edited
+  edit-done = ap (λ (x : Turn). x .checked) (edits-is d item bytes t E) ∙ rw a
+
+  pub edit-bytes : t .desk .bytes ≡ putItem item (cleanOf item bytes) (d .bytes)
+  unfolding edited
+  edit-bytes = ap (λ (x : Turn). x .desk .bytes) (edits-is d item bytes t E) ∙ rw a
+
+  edit-latest : latest (t .desk) ≡ getD (pushed (d .steps) (heldOf (d .count)) (stepOf item (d .bytes))) (heldOf (countOn (heldOf (d .count))) - 1) blank
+  unfolding edited
+  edit-latest = ap (λ (x : Turn). latest (x .desk)) (edits-is d item bytes t E) ∙ rw a
+
+module _ (on : Bool) (d : Desk) (m : Model) (h : History on d m) (item : ℕ) (bytes : List ℕ) (t : Turn) (E : Edits d item bytes t) (a : itemRefusal item bytes ≡ none) where
+  -- the item's bytes are those that were given, with unread places zero
+  pub edit-stores : itemLent item (t .desk .bytes) ≡ cleanOf item bytes
+  unfolding itemLent
+  edit-stores =
+      let n = history-long on d m h in
+      let long : length (t .desk .bytes) ≡ 248 = ap length (edit-bytes d item bytes t E a) ∙ put-item-length item (d .bytes) n (cleanOf item bytes) (clean-long item bytes a) in
+      rw (eq-eqb (length (t .desk .bytes)) 248 long)
+      (ap (itemPart item) (edit-bytes d item bytes t E a) ∙ put-item-part item (d .bytes) n (cleanOf item bytes) (clean-long item bytes a))
+
+  -- and the latest step holds those that were there
+  pub edit-keeps : latest (t .desk) ≡ stepOf item (d .bytes)
+  edit-keeps =
+      let s = stands on d m h in
+      edit-latest d item bytes t E a
+      ∙ rw (held-few (d .count) (s .few), held-few (countOn (d .count)) (count-few (d .count) (s .few)))
+      (push-latest (d .steps) (d .count) (stepOf item (d .bytes)) (s .room) (s .few))
 
 -- ---- what undo gives back
 

@@ -5,10 +5,10 @@ use mathlib.Core.Bool.{Bool, true, false}
 use mathlib.Core.List.{List, append-nil}
 use mathlib.Core.Logic.{_↔_, Iff·trans, _⊎_}
 use mathlib.Core.Option.{none, some, Option·some-injective}
-use Prim.Native.Nat.{ℕ, _+_, _<_, _≤_}
+use Prim.Native.Nat.{ℕ, _<_, _≤_}
 use native.Mathlib.Omega.{arith}
 use lib.Dec.{eqb}
-use lib.ListN.{length, take, drop, length-drop}
+use lib.ListN.{length, take, length-drop}
 use borrow.Author.Tests.{eq-eqb, ne-eqb}
 use Rattle.refusal.specs.Chain.{require, passed}
 use Rattle.refusal.specs.Checked.{refusalIn}
@@ -16,18 +16,15 @@ use Rattle.refusal.specs.Number.{numberOf, refusalAt, refusalPlain}
 use Rattle.refusal.specs.declared.Reason.{Reason}
 use Rattle.refusal.specs.declared.Reason.the-variants.{Item, Size}
 use Rattle.refusal.specs.declared.Refusal.{Refusal}
-use Rattle.refusal.specs.declared.Checked.the-variants.{Passed}
 use Rattle.refusal.proofs.Laws.Chain.{passed-other, require-behind, other-number, refusal-in}
 use Rattle.items.specs.Items.{items}
-use Rattle.items.specs.Item.{rowOf, refusedIn, itemRefusal, put, cleanIn, cleanOf, putIn, putItem}
+use Rattle.items.specs.Item.{rowOf, refusedIn, itemRefusal, cleanIn, cleanOf, putIn, putItem}
 use Rattle.items.proofs.Laws.Item.{no-row}
 use Rattle.record.specs.Record.{privatePart}
 use Rattle.record.specs.Stored.{itemLent}
-use Rattle.record.proofs.Laws.Put.{put-length, put-before, put-there}
-use Rattle.record.proofs.Laws.Record.{private-rest}
+use Rattle.record.proofs.Laws.Put.{put-before}
 use Rattle.record.proofs.Laws.Stored.{by-row, private-item}
-use Rattle.steps.specs.Steps.{heldOf, pushed, countOn, padded, stepOf}
-use Rattle.steps.proofs.Laws.History.{held-few, count-few, push-latest}
+use Rattle.steps.specs.Steps.{padded, stepOf}
 use Rattle.desk.specs.declared.Desk.{Desk}
 use Rattle.desk.specs.declared.Turn.{Turn}
 use Rattle.desk.specs.Desk.{edited}
@@ -36,7 +33,7 @@ use Rattle.promises.specs.Calls.{Edits}
 use Rattle.promises.specs.History.{History}
 use Rattle.promises.specs.Private.{privateStep, PrivateStored}
 use Rattle.promises.proofs.Laws.Calls.{edits-is}
-use Rattle.promises.proofs.Laws.History.{stands}
+use Rattle.promises.proofs.Laws.History.{history-long, edit-done, edit-bytes, edit-stores, edit-keeps}
 
 -- ---- which items there are
 
@@ -75,20 +72,6 @@ private-refusal bytes = refl
 pub edit-private-size : (d : Desk) (bytes : List ℕ) (t : Turn) → Edits d 13 bytes t → (length bytes ≡ 141 → ⊥) → refusalIn (t .checked) ≡ some (refusalPlain Size)
 edit-private-size d bytes t E n = edit-tells d 13 bytes t E ∙ private-refusal bytes ∙ rw (ne-eqb (length bytes) 141 n)
 
--- the desk after the edit
-abbrev after : Desk → List ℕ → Desk
-after d bytes = record {
-  bytes = put (d .bytes) 107 bytes;
-  correction = d .correction;
-  ci = d .ci;
-  steps = pushed (d .steps) (heldOf (d .count)) (stepOf 13 (d .bytes));
-  count = countOn (heldOf (d .count));
-}
-
-edit-after : (d : Desk) (bytes : List ℕ) → length bytes ≡ 141 → edited d 13 bytes ≡ record { desk = after d bytes; checked = Passed }
-unfolding edited cleanOf cleanIn putItem putIn rowOf items
-edit-after d bytes n = rw (private-refusal bytes, eq-eqb (length bytes) 141 n)
-
 pub private-long : (r : List ℕ) → length r ≡ 248 → length (privatePart r) ≡ 141
 unfolding privatePart
 private-long r h = rw (eq-eqb (length r) 248 h) (simp length-drop (omega arith))
@@ -101,29 +84,24 @@ private-step r h =
     let e : padded (itemLent 13 r) ≡ privatePart r = rw (private-item r, l) (append-nil (privatePart r)) in
     λ i. record { item = 13; old = e i }
 
-module _ (r bytes : List ℕ) (h : length r ≡ 248) (n : length bytes ≡ 141) where
-  fits : 107 + length bytes ≤ length r
-  fits = omega arith
+-- it is the last of the record, so that what stands before it stays
+private-before : (r bytes : List ℕ) → length r ≡ 248 → length bytes ≡ 141 → take 107 (putItem 13 (cleanOf 13 bytes) r) ≡ take 107 r
+unfolding putItem putIn cleanOf cleanIn rowOf items
+private-before r bytes h n = put-before r bytes 107 (omega arith)
 
-  put-stored : privatePart (put r 107 bytes) ≡ bytes
-  unfolding privatePart
-  put-stored =
-      let long : length (put r 107 bytes) ≡ 248 = put-length r bytes 107 fits ∙ h in
-      rw (eq-eqb (length (put r 107 bytes)) 248 long)
-      (sym (private-rest (put r 107 bytes) long) ∙ ap (λ (k : ℕ). take k (drop 107 (put r 107 bytes))) (sym n) ∙ put-there r bytes 107 fits)
+private-clean : (bytes : List ℕ) → cleanOf 13 bytes ≡ bytes
+unfolding cleanOf cleanIn rowOf items
+private-clean bytes = refl
 
 -- 141 bytes, whatever they are, are stored, at any desk that was opened
 pub edit-private : (on : Bool) (d : Desk) (m : Model) → History on d m → (bytes : List ℕ) (t : Turn) → Edits d 13 bytes t → length bytes ≡ 141 → PrivateStored d bytes t
 edit-private on d m H bytes t E n =
-    let s = stands on d m H in
-    let h : length (d .bytes) ≡ 248 = ap length (s .bytes) ∙ s .clean .present .long in
-    rw (edits-is d 13 bytes t E ∙ edit-after d bytes n)
-    (record {
-      done = refl;
-      stored = put-stored (d .bytes) bytes h n;
-      before = put-before (d .bytes) bytes 107 (fits (d .bytes) bytes h n);
-      step =
-          rw (held-few (d .count) (s .few), held-few (countOn (d .count)) (count-few (d .count) (s .few)))
-          (push-latest (d .steps) (d .count) (stepOf 13 (d .bytes)) (s .room) (s .few) ∙ private-step (d .bytes) h);
+    let h : length (d .bytes) ≡ 248 = history-long on d m H in
+    let a : itemRefusal 13 bytes ≡ none = private-refusal bytes ∙ rw (eq-eqb (length bytes) 141 n) in
+    record {
+      done = edit-done d 13 bytes t E a;
+      stored = sym (private-item (t .desk .bytes)) ∙ edit-stores on d m H 13 bytes t E a ∙ private-clean bytes;
+      before = ap (take 107) (edit-bytes d 13 bytes t E a) ∙ private-before (d .bytes) bytes h n;
+      step = edit-keeps on d m H 13 bytes t E a ∙ private-step (d .bytes) h;
       kept = private-long (d .bytes) h;
-    })
+    }

@@ -63,7 +63,7 @@ runs-are a p q b z d la lp lq lb lz =
 
 -- ---- a table laid out in two
 
--- the number of the byte behind these items, the first of which is looked for from n on
+-- the number of the byte behind these items; n where there are none
 abbrev pastOf : ℕ → List Row → ℕ
 pastOf n [] = n
 pastOf n (i ∷ is) = pastOf (i .first + i .long) is

@@ -341,7 +341,7 @@ by-row n P p f = go (rowOf n items) refl
     go none e = p
     go (some i) e = f i e (sits n i e)
 
--- an item's place, or there is no such item
+-- the place is that of a row of the table
 pub record Placed (p : ItemPlace) (o : Option Row) : Type 0 where
   pub row : Row
   pub is : o ≡ some row

@@ -4,7 +4,7 @@ use mathlib.Core.Path.{_≡_, refl, sym, ap, _∙_}
 use mathlib.Core.Bool.{Bool, true, false, cond}
 use mathlib.Core.List.{List, [], _∷_, _++_, reverse, reverse-append, reverseAux-eq}
 use mathlib.Core.Logic.{⊎-elim}
-use Prim.Native.Nat.{ℕ, zero, suc, _-_, _≤_, _<_}
+use Prim.Native.Nat.{ℕ, zero, suc, _+_, _-_, _≤_, _<_}
 use native.Mathlib.Numerals.{add-one}
 use native.Mathlib.Omega.{arith}
 use lib.Dec.{ltb}
@@ -89,18 +89,20 @@ pub push-newest : (steps : List Step) (count : ℕ) (s : Step) → length steps 
 push-newest steps count s n h =
     ⊎-elim (push-few steps s n count) (λ k. let e : count ≡ 32 = omega arith in rw e (push-full steps s n)) (lt-or-le count 32)
 
-pub count-more : (count : ℕ) → count ≤ 32 → (l : List (List ℕ)) (r : List ℕ) → count ≡ length l → countOn count ≡ length (take 32 (r ∷ l))
+-- how many there are then: one more below 32, else 32
+count-by : (P : ℕ → Type 0) (count : ℕ) → (count < 32 → P (count + 1)) → (32 ≤ count → P 32) → P (countOn count)
 unfolding countOn
+count-by P count f g = ⊎-elim (λ k. simp (lt-ltb count 32 k) (f k)) (λ k. simp (le-ltb count 32 k) (g k)) (lt-or-le count 32)
+
+pub count-more : (count : ℕ) → count ≤ 32 → (l : List (List ℕ)) (r : List ℕ) → count ≡ length l → countOn count ≡ length (take 32 (r ∷ l))
 count-more count h l r e =
-    ⊎-elim (λ k. simp (lt-ltb count 32 k, length-take) (omega arith)) (λ k. simp (le-ltb count 32 k, length-take) (omega arith)) (lt-or-le count 32)
+    count-by (λ (n : ℕ). n ≡ length (take 32 (r ∷ l))) count (λ k. simp length-take (omega arith)) (λ k. simp length-take (omega arith))
 
 count-some : (count : ℕ) → 0 < countOn count
-unfolding countOn
-count-some count = ⊎-elim (λ k. simp (lt-ltb count 32 k) (omega arith)) (λ k. simp (le-ltb count 32 k) (omega arith)) (lt-or-le count 32)
+count-some count = count-by (λ (n : ℕ). 0 < n) count (λ k. omega arith) (λ k. omega arith)
 
 pub count-few : (count : ℕ) → count ≤ 32 → countOn count ≤ 32
-unfolding countOn
-count-few count h = ⊎-elim (λ k. simp (lt-ltb count 32 k) (omega arith)) (λ k. simp (le-ltb count 32 k) (omega arith)) (lt-or-le count 32)
+count-few count h = count-by (λ (n : ℕ). n ≤ 32) count (λ k. omega arith) (λ k. omega arith)
 
 -- from what was put into an item's place, its step leads back
 pub back-from-step : (item : ℕ) (new r : List ℕ) → length r ≡ 248 → length new ≡ placeOf item .length → backFrom (stepOf item r) (putItem item new r) ≡ r
