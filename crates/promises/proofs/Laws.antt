@@ -1,4 +1,4 @@
--- The promises: worked values; demand 1 (Only, Refused, Places), demand 2 (Packets, Words, Reserved, History, Private) and demand 3 (Line, with a
+-- The promises: worked values; demand 1 (Only, Refused, Places), demand 2 (Packets, Words, Reserved, History, Unbroken, Private) and demand 3 (Line, with a
 -- line worked out); what is printed; and what a check is worth (Checking).
 pub mod Values
 pub mod Only
@@ -12,6 +12,7 @@ pub mod Refused
 pub mod Placed
 pub mod Places
 pub mod History
+pub mod Unbroken
 pub mod Private
 pub mod Arrival
 pub mod Line

@@ -10,4 +10,5 @@ pub mod Private
 pub mod Checking
 pub mod Packets
 pub mod History
+pub mod Unbroken
 pub mod Line
