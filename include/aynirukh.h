@@ -34,7 +34,7 @@
  *    21   another number of bytes or words than the call takes
  *    22   no step left to undo
  *    23   the room lent for the answer has not the exact size
- *    24   the desk's record breaks an item's rule, or its reserved area is not zero
+ *    24   is given no more, and stays unused
  *    25   a field of other than 328 bytes
  *    26   a field's first six bits are not zero, its line is not 1 to 1,125, or its offset is over 2,199
  *    27   an index CI over 15
@@ -81,7 +81,6 @@ enum {
     AY_SIZE = 21,
     AY_NOTHING_TO_UNDO = 22,
     AY_ROOM = 23,
-    AY_BROKEN_DESK = 24,
     AY_FIELD_LENGTH = 25,
     AY_FIELD_HEAD = 26,
     AY_INDEX = 27
@@ -243,7 +242,9 @@ AyTurn ay_desk_edit(AyDesk desk, uint8_t item, const uint8_t *bytes, size_t byte
 /* Puts back the bytes before the latest step, and takes the step away; CI stays. Refuses 22. */
 AyTurn ay_desk_undo(AyDesk desk);
 
-/* Writes the 262 words of the desk's record with its CI, and counts CI on, 15 to 0. Refuses 24, 23. */
+/* Writes the 262 words of the desk's bytes as they stand, with its CI modulo 16, and counts CI on from that, 15 to 0. The bytes of a desk that
+ * ay_desk_open leads to are its record, with nothing in them that a call refuses; bytes put into an AyDesk by hand are neither checked nor cleaned.
+ * Refuses 23. */
 AyTurn ay_desk_send(AyDesk desk, uint16_t *out, size_t out_len);
 
 /* ---- follower */

@@ -357,7 +357,7 @@ int main(void)
     part("check a codeword", check, clean, "clean repair", 1);
     part("read a clean packet", time_of(our_read, 0), clean, "clean repair", 1.5);
     double send = time_of(our_send, ALL_STEPS);
-    printf("%-36s %8.3f\n", "send", send);
+    row("send / encode", send, time_of(fec_encode, 0), 4);
     part("edit one byte, no history", time_of(our_edit, NO_STEPS), send, "send", 1);
     part("edit one byte, 32 steps", time_of(our_edit, ALL_STEPS), send, "send", 1);
     part("edit the private bytes, 32 steps", time_of(our_edit_private, ALL_STEPS), send, "send", 1);

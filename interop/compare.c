@@ -5,7 +5,7 @@
  *   - marked deliveries, held in the same way: every number of marks from none to eight with every number of silent changes from none to four; marks
  *     over bytes that are mostly right; and words between two codewords that are seven bytes apart, where one rule ends and the other begins;
  *   - packets: the 262 words of random records must be those of GStreamer's encoder, and must read back; and what that encoder makes of bytes with
- *     counters in the reserved area must be refused, at the first of them;
+ *     counters in the reserved area must be refused, at the first of them, and be what a desk made by hand with those bytes sends;
  *   - turns at a desk: edits of the items that may hold anything, the private bytes among them, undos and sends, beside a history of whole records kept
  *     here: the desk's bytes must be the record that it gives, and the words sent those that GStreamer's encoder makes of it;
  *   - every number of 16 bits through the word check, and packets with correction off in which upper bits are wrong: what is wrong, and of which
@@ -441,11 +441,12 @@ static void packet(long n)
         fail("reading", n);
 }
 
-/* a foreign encoder's counters, up to three of them in the reserved area and the bytes around it: packet, bytes and desk are refused where a byte of 44
- * to 107 is not zero, at the first of them, before a station code that is wrong too */
+/* a foreign encoder's counters, up to three of them in the reserved area and the bytes around it: packet and bytes are refused where a byte of 44
+ * to 107 is not zero, at the first of them, before a station code that is wrong too; a desk made by hand that holds them, with any CI, sends the very
+ * words of the encoder */
 static void counters(long n)
 {
-    uint16_t words[AY_PACKET_WORDS];
+    uint16_t words[AY_PACKET_WORDS], ours[AY_PACKET_WORDS];
     AyDesk desk = ay_desk_open(true);
     for (long i = 0; i <= n % 3; i++)
         desk.bytes[42 + next() % 66] = (uint8_t)next();
@@ -458,7 +459,12 @@ static void counters(long n)
     int number = place ? AY_RESERVED_AREA : station ? AY_STATION : AY_DONE;
     if (!place && station)
         place = 1;
-    foreign(words, desk.bytes, on, (int)(n % 16), n);
+    desk.correction = on;
+    desk.ci = (uint8_t)next();
+    foreign(words, desk.bytes, on, desk.ci % 16, n);
+    AyTurn sent = ay_desk_send(desk, ours, AY_PACKET_WORDS);
+    if (sent.number != AY_DONE || sent.desk.ci != (desk.ci + 1) % 16 || memcmp(ours, words, sizeof words))
+        fail("sending counters", n);
     AyPacket p = ay_read_packet(words, AY_PACKET_WORDS);
     AyFollowed f = ay_follower_follow(ay_follower_open(), words, AY_PACKET_WORDS);
     if (p.number != number || p.place != place || f.number != number || f.place != place)
@@ -466,8 +472,6 @@ static void counters(long n)
     AyAnswer a = ay_record_refusal(desk.bytes, DATA), w = ay_write_packet(on, 0, desk.bytes, DATA, words, AY_PACKET_WORDS);
     if (a.number != number || a.place != place || w.number != number || w.place != place)
         fail("bytes with counters", n);
-    if (ay_desk_send(desk, words, AY_PACKET_WORDS).number != (number == AY_DONE ? AY_DONE : AY_BROKEN_DESK))
-        fail("sending counters", n);
 }
 
 /* a desk, and beside it the records of its history, the present one last */

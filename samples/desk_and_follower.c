@@ -224,13 +224,13 @@ static void upper_bits(const AyDesk *desk)
     expect("bits of an unsound word, followed", heard.bits, AY_B9);
 }
 
-/* A foreign encoder keeps counters of its own in the reserved area: the packet, the bytes and the desk that hold them are refused, and the first
- * of the counters is named. */
+/* A foreign encoder keeps counters of its own in the reserved area: the packet and the bytes that hold them are refused, and the first of the
+ * counters is named. A desk made by hand that holds one sends it as it stands, with its CI modulo 16. */
 static void counters(const AyDesk *desk)
 {
     uint16_t words[AY_PACKET_WORDS], kept[AY_PACKET_WORDS];
     uint8_t record[AY_RECORD_BYTES];
-    AyDesk broken = *desk;
+    AyDesk made = *desk;
     expect("number of writing, before the counters", ay_write_packet(false, 0, desk->bytes, AY_RECORD_BYTES, words, AY_PACKET_WORDS).number, AY_DONE);
     words[6 + 60] = ay_word_of(7);
     words[6 + 63] = ay_word_of(9);
@@ -251,8 +251,14 @@ static void counters(const AyDesk *desk)
     expect("number of writing counters", answer.number, AY_RESERVED_AREA);
     expect("place of writing counters", answer.place, 60);
     expect_bytes("the words after that refusal", words, kept, sizeof(words));
-    broken.bytes[60 - 1] = 7;
-    expect("number of sending counters", ay_desk_send(broken, words, AY_PACKET_WORDS).number, AY_BROKEN_DESK);
+    made.bytes[60 - 1] = 7;
+    made.ci = 200;
+    AyTurn turn = ay_desk_send(made, words, AY_PACKET_WORDS);
+    expect("number of sending a counter", turn.number, AY_DONE);
+    expect("CI behind 200", turn.desk.ci, 9);
+    expect("the header with CI 200", words[6], ay_word_of(0x80 + 8));
+    expect("the word of the counter", words[6 + 60], ay_word_of(7));
+    expect("number of reading it", ay_read_packet(words, AY_PACKET_WORDS).number, AY_RESERVED_AREA);
 }
 
 /* The packet in a field, and out of it again. */

@@ -167,7 +167,7 @@ pub extern "C" fn ay_desk_undo(desk: Desk) -> AyTurn
     answers::turn(turn)
 }
 
-// Writes the packet of the desk's record, and counts the index on. A refusal leaves `out` as it was.
+// Writes the packet of the desk's bytes as they stand, and counts the index on. A refusal leaves `out` as it was.
 #[no_mangle]
 pub extern "C" fn ay_desk_send(desk: Desk, out: &mut [u16]) -> AyTurn
     ensures { λ r. ⌜ (r ≡ turnFrom (sent desk (length (now (out .entry))))) × (now (out .exit) ≡ sendLeaves desk (now (out .entry))) ⌝ }

@@ -1,16 +1,15 @@
 -- The desk: what it opens with, and what an edit, an undo and a send answer and leave, for every desk value.
 -- Assumes nothing.
-use mathlib.Core.Bool.{Bool, true, false}
+use mathlib.Core.Bool.{Bool}
 use mathlib.Core.List.{List}
-use mathlib.Core.Option.{Option, none, some}
+use mathlib.Core.Option.{Option}
 use Prim.Native.Nat.{ℕ, _+_, _-_, _%_}
 use lib.Dec.{eqb, ltb}
 use lib.ListN.{length, getD, replicate}
 use Rattle.refusal.specs.Chain.{require, passed, leftBy}
 use Rattle.refusal.specs.Number.{refusalPlain}
-use Rattle.refusal.specs.declared.Reason.the-variants.{NothingToUndo, BrokenDesk, Room}
+use Rattle.refusal.specs.declared.Reason.the-variants.{NothingToUndo, Room}
 use Rattle.refusal.specs.declared.Refusal.{Refusal}
-use Rattle.record.specs.Record.{contentRefusal, recordOf}
 use Rattle.items.specs.Item.{itemRefusal, cleanOf, putItem}
 use Rattle.refusal.specs.Checked.{checkedOf}
 use Rattle.writing.specs.Layout.{packetWords}
@@ -73,24 +72,19 @@ undone d =
     (record { bytes = backFrom (latest d) (d .bytes); correction = d .correction; ci = d .ci; steps = d .steps; count = heldOf (d .count) - 1 })
     d
 
--- ---- send: 24, 23
+-- ---- send: 23
 
--- is nothing refused?
-abbrev pub noneRefused : Option Refusal → Bool
-noneRefused none = true
-noneRefused (some why) = false
-
-unfoldable pub sendRefusal : Desk → ℕ → Option Refusal
-sendRefusal d room =
-    require (noneRefused (contentRefusal (d .bytes))) (refusalPlain BrokenDesk) (require (eqb room 262) (refusalPlain Room) passed)
+-- room for so many words, whatever the desk
+unfoldable pub sendRefusal : ℕ → Option Refusal
+sendRefusal room = require (eqb room 262) (refusalPlain Room) passed
 
 -- CI modulo 16 is sent, and the next is counted on from it
 unfoldable pub sent : Desk → ℕ → Turn
 sent d room =
-    turnBy (sendRefusal d room)
+    turnBy (sendRefusal room)
     (record { bytes = d .bytes; correction = d .correction; ci = (d .ci % 16 + 1) % 16; steps = d .steps; count = d .count })
     d
 
--- what is left in the lent buffer: the packet of the record of the desk's bytes, or what was there
+-- what is left in the lent buffer: the packet of the desk's bytes as they stand, or what was there
 unfoldable pub sendLeaves : Desk → List ℕ → List ℕ
-sendLeaves d old = leftBy (sendRefusal d (length old)) (packetWords (d .correction) (d .ci % 16) (recordOf (d .bytes))) old
+sendLeaves d old = leftBy (sendRefusal (length old)) (packetWords (d .correction) (d .ci % 16) (d .bytes)) old

@@ -5,12 +5,16 @@ use Prim.Native.Nat.{ℕ}
 use Rattle.refusal.specs.declared.Wrong.{Wrong}
 use Rattle.refusal.specs.declared.Wrong.the-variants.{B8, B9, Both}
 use Rattle.refusal.specs.declared.Reason.{Reason}
-use Rattle.refusal.specs.declared.Reason.the-variants.{Length, Wide, Flag, Kind, Count, Header, Parity, Fill, BeyondRepair, Checksum, Station, Time, Picture, Sound, ReservedArea, Item, Size, NothingToUndo, Room, BrokenDesk, FieldLength, FieldHead, Index}
+use Rattle.refusal.specs.declared.Reason.the-variants.{Length, Wide, Flag, Kind, Count, Header, Parity, Fill, BeyondRepair, Checksum, Station, Time, Picture, Sound, ReservedArea, Item, Size, NothingToUndo, Room, FieldLength, FieldHead, Index}
 use Rattle.refusal.specs.declared.Refusal.{Refusal}
 
 -- the numbers that may be given, in order
 unfoldable pub fixedList : List ℕ
-fixedList = 1 ∷ 2 ∷ 3 ∷ 4 ∷ 5 ∷ 6 ∷ 7 ∷ 8 ∷ 9 ∷ 10 ∷ 11 ∷ 12 ∷ 13 ∷ 14 ∷ 15 ∷ 20 ∷ 21 ∷ 22 ∷ 23 ∷ 24 ∷ 25 ∷ 26 ∷ 27 ∷ []
+fixedList = 1 ∷ 2 ∷ 3 ∷ 4 ∷ 5 ∷ 6 ∷ 7 ∷ 8 ∷ 9 ∷ 10 ∷ 11 ∷ 12 ∷ 13 ∷ 14 ∷ 15 ∷ 20 ∷ 21 ∷ 22 ∷ 23 ∷ 25 ∷ 26 ∷ 27 ∷ []
+
+-- the numbers that were given once and may never be given again: 24 was for sending bytes that break a rule, which no opened desk holds
+unfoldable pub retired : List ℕ
+retired = 24 ∷ []
 
 -- the number of each reason
 unfoldable pub numberOf : Reason → ℕ
@@ -33,7 +37,6 @@ numberOf Item = 20
 numberOf Size = 21
 numberOf NothingToUndo = 22
 numberOf Room = 23
-numberOf BrokenDesk = 24
 numberOf FieldLength = 25
 numberOf FieldHead = 26
 numberOf Index = 27
@@ -65,7 +68,6 @@ bitsIn Item = 0
 bitsIn Size = 0
 bitsIn NothingToUndo = 0
 bitsIn Room = 0
-bitsIn BrokenDesk = 0
 bitsIn FieldLength = 0
 bitsIn FieldHead = 0
 bitsIn Index = 0

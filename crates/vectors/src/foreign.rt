@@ -1,4 +1,5 @@
-// Packets as a foreign encoder makes them, with counters of its own where it likes: what the panel says of them.
+// Packets as a foreign encoder makes them, with counters of its own where it likes: what the panel says of them, and what a desk made by hand that
+// holds such counters sends.
 use crate::day;
 use desk::Desk;
 use follower::Follower;
@@ -87,4 +88,49 @@ pub(crate) fn followed_with(first: u8) -> u64 {
     let before = heard.follower;
     let after = before.follow(&with_counters(first));
     refused(desk, after.follower)
+}
+
+// A fresh desk with these bytes in place of its own, and this CI: no opening leads to it.
+fn by_hand(bytes: [u8; 248], ci: u8) -> Desk {
+    let fresh = Desk::open(true);
+    let steps = fresh.steps;
+    Desk {
+        bytes,
+        correction: true,
+        ci,
+        steps,
+        count: 0,
+    }
+}
+
+// The word at a place; 0 where there is none.
+fn word(words: &[u16], at: usize) -> u16 {
+    if at < words.len() {
+        return words[at];
+    }
+    0
+}
+
+// How many of the words of two packets are equal.
+fn equal(a: &[u16], b: &[u16]) -> u64 {
+    let mut count: u64 = 0;
+    let mut n: usize = 0;
+    while n < 262 {
+        if word(a, n) == word(b, n) {
+            count = std::num::wrapping_add_u64(count, 1);
+        }
+        n += 1;
+    }
+    count
+}
+
+// How many words that a desk with the counters in its bytes sends, with CI 160, are those of the packet with them, which has the index 0.
+pub(crate) fn sent_with(first: u8) -> u64 {
+    let theirs = with_counters(first);
+    let mut bytes = [0u8; 248];
+    anc::low_bytes(&theirs[7..255], &mut bytes);
+    let desk = by_hand(bytes, 160);
+    let mut words = [0u16; 262];
+    desk.send(&mut words);
+    equal(&words, &theirs)
 }

@@ -1,6 +1,6 @@
 // Runs what is compared and not proved: parities, repairs and checks that another program worked out, the same repairs by the plain repairer,
 // three changed words at both ends of the codeword and six that confess, the end of the history, the private bytes edited and undone, a foreign
-// encoder's counters, and a day of a desk and a follower over a damaged line. Prints what was compared.
+// encoder's counters, read and sent, and a day of a desk and a follower over a damaged line. Prints what was compared.
 mod day;
 mod desk_cases;
 mod foreign;
@@ -69,6 +69,10 @@ fn main() {
     line(
         b"the follower's refused packets, its record as it was: ",
         foreign::followed_with(59),
+    );
+    line(
+        b"words of a desk made by hand with these counters and CI 160, equal to the packet's, of 262: ",
+        foreign::sent_with(59),
     );
     let day = day::run();
     line(b"a day, packets sent: ", day.sent as u64);

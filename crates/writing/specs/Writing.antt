@@ -1,4 +1,4 @@
--- Writing a packet from 248 bytes: what it is refused for, in the order of the checks, and what is written.
+-- Writing a packet, of the record of 248 bytes or of the bytes as they stand: what it is refused for, in the order of the checks, and what is written.
 -- Assumes nothing.
 use mathlib.Core.Bool.{Bool}
 use mathlib.Core.List.{List}
@@ -13,11 +13,17 @@ use Rattle.refusal.specs.declared.Refusal.{Refusal}
 use Rattle.record.specs.Record.{contentRefusal, recordOf}
 use Rattle.writing.specs.Layout.{packetWords}
 
--- 21, 27, 15, 11 to 14, 23: the bytes, the index, and room for so many words
+-- 21, 27: the bytes and the index that are given
+unfoldable pub givenRefusal : ℕ → List ℕ → Option Refusal
+givenRefusal ci bytes = require (eqb (length bytes) 248) (refusalPlain Size) (require (leb ci 15) (refusalPlain Index) passed)
+
+-- 21, 27, 15, 11 to 14, 23: the record of the bytes, into room for so many words
 unfoldable pub writeRefusal : ℕ → List ℕ → ℕ → Option Refusal
-writeRefusal ci bytes room =
-    require (eqb (length bytes) 248) (refusalPlain Size)
-    (require (leb ci 15) (refusalPlain Index) (next (contentRefusal bytes) (require (eqb room 262) (refusalPlain Room) passed)))
+writeRefusal ci bytes room = next (givenRefusal ci bytes) (next (contentRefusal bytes) (require (eqb room 262) (refusalPlain Room) passed))
+
+-- 21, 27, 23: the bytes as they stand, whatever is in them
+unfoldable pub layoutRefusal : ℕ → List ℕ → ℕ → Option Refusal
+layoutRefusal ci bytes room = next (givenRefusal ci bytes) (require (eqb room 262) (refusalPlain Room) passed)
 
 -- the words of the bytes' record
 unfoldable pub writtenWords : Bool → ℕ → List ℕ → List ℕ

@@ -1,4 +1,4 @@
-// The 262 words of a record, written part by part into a buffer that has room for them.
+// The 262 words of 248 bytes, written part by part into a buffer that has room for them.
 ghost use mathlib.Core.Path.{_≡_};
 ghost use mathlib.Core.Bool.{cond};
 ghost use mathlib.Core.List.{_++_, _∷_, []};
@@ -35,13 +35,13 @@ fn front(correction: bool, ci: u8, out: &mut [u16])
     out[6] = first;
 }
 
-// Fills six words with the parity of the record, or with 0x200 where correction is off.
-fn guard(correction: bool, rec: &[u8], out: &mut [u16])
+// Fills six words with the parity of the bytes, or with 0x200 where correction is off.
+fn guard(correction: bool, bytes: &[u8], out: &mut [u16])
     requires { ⌜ length (now out) ≡ 6 ⌝ }
-    ensures { λ r. ⌜ now (out .exit) ≡ cond correction (soundWords (parityOf (now (rec .entry)))) (replicate 6 0x200) ⌝ }
+    ensures { λ r. ⌜ now (out .exit) ≡ cond correction (soundWords (parityOf (now (bytes .entry)))) (replicate 6 0x200) ⌝ }
 {
     if correction {
-        let parity = rs::parity(rec);
+        let parity = rs::parity(bytes);
         anc::sound_words(&parity, out);
     } else {
         out[0] = 0x200;
@@ -53,14 +53,14 @@ fn guard(correction: bool, rec: &[u8], out: &mut [u16])
     }
 }
 
-// Fills 262 words with the packet of a record. The checksum comes last, over the words that stand there by then.
-pub(crate) fn fill(correction: bool, ci: u8, rec: &[u8], out: &mut [u16])
-    requires { ⌜ (ci ≤ 15) × (length (now rec) ≡ 248) × (length (now out) ≡ 262) ⌝ }
-    ensures { λ r. ⌜ now (out .exit) ≡ packetWords correction ci (now (rec .entry)) ⌝ }
+// Fills 262 words with the packet of 248 bytes. The checksum comes last, over the words that stand there by then.
+pub(crate) fn fill(correction: bool, ci: u8, bytes: &[u8], out: &mut [u16])
+    requires { ⌜ (ci ≤ 15) × (length (now bytes) ≡ 248) × (length (now out) ≡ 262) ⌝ }
+    ensures { λ r. ⌜ now (out .exit) ≡ packetWords correction ci (now (bytes .entry)) ⌝ }
 {
     front(correction, ci, &mut out[0..7]);
-    anc::sound_words(rec, &mut out[7..255]);
-    guard(correction, rec, &mut out[255..261]);
+    anc::sound_words(bytes, &mut out[7..255]);
+    guard(correction, bytes, &mut out[255..261]);
     let sum = anc::checksum(&out[3..261]);
     out[261] = sum;
 }

@@ -1,13 +1,12 @@
 -- What packing answers and leaves by its checks, what it accepts, and what its answers say.
 -- Assumes nothing.
-use mathlib.Core.Path.{_≡_, refl, sym, ap}
+use mathlib.Core.Path.{_≡_}
 use mathlib.Core.Bool.{Bool, true}
 use mathlib.Core.List.{List}
-use mathlib.Core.Option.{Option, none, some}
+use mathlib.Core.Option.{none, some}
 use Prim.Native.Nat.{ℕ}
 use borrow.Author.Tests.{eqb-true}
 use lib.ListN.{length, take}
-use Rattle.refusal.specs.Chain.{leftBy}
 use Rattle.refusal.specs.Checked.{checkedOf}
 use Rattle.refusal.specs.declared.Checked.{Checked}
 use Rattle.refusal.specs.declared.Checked.the-variants.{Passed, Refused as RefusedCheck}
@@ -15,35 +14,26 @@ use Rattle.refusal.specs.declared.Refusal.{Refusal}
 use Rattle.refusal.proofs.Laws.Chain.{told, require-passed}
 use Rattle.anc.specs.Words.{flag, narrow}
 use Rattle.anc.proofs.Laws.Words.{flag-words}
-use Rattle.writing.specs.Written.{refusalIn, writtenBy}
+use Rattle.writing.specs.Written.{refusalIn}
 use Rattle.writing.specs.declared.Written.{Written}
 use Rattle.writing.specs.declared.Written.the-variants.{Done, Refused}
+use Rattle.writing.proofs.Laws.Writing.{Answer, answer, said-in}
 use Rattle.b40.specs.Field.{isPlace, fieldOf}
-use Rattle.b40.specs.Packing.{packRefusal, packedOf, packLeaves}
+use Rattle.b40.specs.Packing.{packRefusal, packedOf}
 
--- what is said, and what is left in the lent buffer
-pub record Packed (yc : Bool) (line offset : ℕ) (words old : List ℕ) (said : Written) (left : List ℕ) : Type 0 where
-  pub right : said ≡ packedOf line offset words (length old)
-  pub kept : left ≡ packLeaves yc line offset words old
+-- by what the checks said
+module _ (yc : Bool) (line offset : ℕ) (words old : List ℕ) (said : Checked) (e : said ≡ checkedOf (packRefusal line offset words (length old))) where
+  abbrev Packed : Written → List ℕ → Type 0
+  Packed told left = Answer (packRefusal line offset words (length old)) (fieldOf yc line offset words) old told left
 
-module _ (yc : Bool) (line offset : ℕ) (words old : List ℕ) where
-  answer : (o : Option Refusal) → packRefusal line offset words (length old) ≡ o → Packed yc line offset words old (writtenBy o) (leftBy o (fieldOf yc line offset words) old)
-  unfolding packedOf packLeaves
-  answer o e = record {
-    right = sym (ap writtenBy e);
-    kept = sym (ap (λ (p : Option Refusal). leftBy p (fieldOf yc line offset words) old) e);
-  }
+  pub not-packed : (why : Refusal) → said ≡ RefusedCheck why → Packed (Refused why) old
+  not-packed why s = answer (some why) _ old (told _ said (RefusedCheck why) e s)
 
-  -- by what the checks said
-  module _ (said : Checked) (e : said ≡ checkedOf (packRefusal line offset words (length old))) where
-    pub not-packed : (why : Refusal) → said ≡ RefusedCheck why → Packed yc line offset words old (Refused why) old
-    not-packed why s = answer (some why) (told _ said (RefusedCheck why) e s)
+  pub all-passed : said ≡ Passed → packRefusal line offset words (length old) ≡ none
+  all-passed s = told _ said Passed e s
 
-    pub all-passed : said ≡ Passed → packRefusal line offset words (length old) ≡ none
-    all-passed s = told _ said Passed e s
-
-    pub packed : said ≡ Passed → Packed yc line offset words old Done (fieldOf yc line offset words)
-    packed s = answer none (all-passed s)
+  pub packed : said ≡ Passed → Packed Done (fieldOf yc line offset words)
+  packed s = answer none _ old (all-passed s)
 
 -- what packing accepts
 pub record Accepts (line offset : ℕ) (words : List ℕ) (room : ℕ) : Type 0 where
@@ -71,8 +61,4 @@ accepts line offset words room ok =
 -- the refusal that an answer tells is the one that the rules give
 pub refusal-said : (line offset : ℕ) (words : List ℕ) (room : ℕ) → refusalIn (packedOf line offset words room) ≡ packRefusal line offset words room
 unfolding packedOf
-refusal-said line offset words room = go (packRefusal line offset words room)
-  where
-    go : (o : Option Refusal) → refusalIn (writtenBy o) ≡ o
-    go none = refl
-    go (some why) = refl
+refusal-said line offset words room = said-in (packRefusal line offset words room)

@@ -2,6 +2,7 @@
 -- Assumes nothing.
 use mathlib.Core.Path.{_∙_}
 use borrow.Author.Needs.{needs}
+use Rattle.b40.specs.Packing.{packedOf, packLeaves}
 use Rattle.b40.proofs.Laws.Packing.{not-packed, all-passed, packed, accepts}
 use Rattle.b40.proofs.pack.Statement.{statement}
 use Rattle.b40.proofs.pack.Tie as tie
@@ -15,6 +16,7 @@ write-bytes-requires c κs =
     (A .tens, A .place, A .long, A .roomy)
 
 returns : tie.Need-returns
+unfolding packedOf packLeaves
 returns c =
     let k = c .before .before .before in
     let a = k .before .before .before .args in
@@ -22,6 +24,7 @@ returns c =
     (A .right, A .kept)
 
 returns-2 : tie.Need-returns-2
+unfolding packedOf packLeaves
 returns-2 c =
     let w = c .before .before in
     let t = w .before .before in

@@ -8,22 +8,20 @@ use Prim.Native.Nat.{ℕ, _%_, _<_}
 use native.Mathlib.Nat.{mod-lt}
 use native.Mathlib.Omega.{arith}
 use lib.ListN.{length}
-use borrow.Author.Tests.{lt-ltb, ne-eqb, le-leb}
+use borrow.Author.Tests.{lt-ltb, ne-eqb}
 use Rattle.refusal.specs.Chain.{next}
 use Rattle.refusal.specs.Number.{refusalPlain}
-use Rattle.refusal.specs.declared.Reason.the-variants.{NothingToUndo, BrokenDesk, Room}
+use Rattle.refusal.specs.declared.Reason.the-variants.{NothingToUndo, Room}
 use Rattle.refusal.specs.declared.Refusal.{Refusal}
 use Rattle.refusal.specs.declared.Checked.{Checked}
 use Rattle.refusal.specs.declared.Checked.the-variants.{Passed, Refused}
 use Rattle.refusal.specs.Checked.{checkedOf}
-use Rattle.record.specs.Record.{contentRefusal, recordRefusal, recordOf}
 use Rattle.items.specs.Item.{itemRefusal, cleanOf, putItem}
 use Rattle.record.specs.Stored.{storeRefusal, storeLeaves}
 use Rattle.refusal.proofs.Laws.Chain.{told}
 use Rattle.writing.specs.Layout.{packetWords}
-use Rattle.writing.specs.Writing.{writeRefusal, writtenWords}
-use Rattle.writing.specs.Written.{writeLeaves}
-use Rattle.record.proofs.Laws.Reserved.{content-decides}
+use Rattle.writing.specs.Written.{layoutLeaves}
+use Rattle.writing.proofs.Laws.Writing.{layout-by-room}
 use Rattle.steps.specs.declared.Step.{Step}
 use Rattle.steps.specs.declared.Kept.{Kept}
 use Rattle.steps.specs.Steps.{heldOf, keptOf, pushed, countOn}
@@ -81,34 +79,16 @@ module _ (d : Desk) (k : ℕ) (e : k ≡ heldOf (d .count)) where
 
 -- ---- send
 
-module _ (d : Desk) (old : List ℕ) (said : Checked) (n : length (d .bytes) ≡ 248) (e : said ≡ checkedOf (recordRefusal (d .bytes))) where
-  rules-said : (o : Checked) → said ≡ o → checkedOf (contentRefusal (d .bytes)) ≡ o
-  rules-said o s = ap checkedOf (sym (content-decides (d .bytes) n)) ∙ sym e ∙ s
-
-  pub send-broken : (why given : Refusal) → said ≡ Refused why → given ≡ refusalPlain BrokenDesk
+module _ (d : Desk) (old : List ℕ) where
+  pub send-room : (given : Refusal) → (length old ≡ 262 → ⊥) → given ≡ refusalPlain Room
       → (turn d (Refused given) ≡ sent d (length old)) × (old ≡ sendLeaves d old)
   unfolding sent sendLeaves sendRefusal
-  send-broken why given s g =
-      let b : contentRefusal (d .bytes) ≡ some why = told (contentRefusal (d .bytes)) (Refused why) (Refused why) (sym (rules-said (Refused why) s)) refl in
-      rw (b, g) (refl, refl)
+  send-room given f g = simp (ne-eqb (length old) 262 f) (rw g (refl, refl))
 
-  module _ (s : said ≡ Passed) where
-    kept : contentRefusal (d .bytes) ≡ none
-    kept = told (contentRefusal (d .bytes)) Passed Passed (sym (rules-said Passed s)) refl
-
-    pub send-room : (given : Refusal) → (length old ≡ 262 → ⊥) → given ≡ refusalPlain Room
-        → (turn d (Refused given) ≡ sent d (length old)) × (old ≡ sendLeaves d old)
-    unfolding sent sendLeaves sendRefusal
-    send-room given f g = simp (kept, ne-eqb (length old) 262 f) (rw g (refl, refl))
-
-    -- nothing in the record is refused and there is room
-    pub send-passes : length old ≡ 262 → sendRefusal d (length old) ≡ none
-    unfolding sendRefusal
-    send-passes m = simp (kept, m)
-
-    -- so that the packet of the record is written
-    pub send-writes : length old ≡ 262 → writeLeaves (d .correction) (d .ci % 16) (d .bytes) old ≡ packetWords (d .correction) (d .ci % 16) (recordOf (d .bytes))
-    unfolding writeLeaves writeRefusal writtenWords
-    send-writes m =
-        let c : d .ci % 16 < 16 = mod-lt (d .ci) (omega arith) in
-        simp (kept, n, m, le-leb (d .ci % 16) 15 (omega arith))
+  -- where there is room, the packet of the bytes is written
+  pub send-writes : length (d .bytes) ≡ 248 → length old ≡ 262
+      → layoutLeaves (d .correction) (d .ci % 16) (d .bytes) old ≡ packetWords (d .correction) (d .ci % 16) (d .bytes)
+  unfolding layoutLeaves
+  send-writes n m =
+      let c : d .ci % 16 < 16 = mod-lt (d .ci) (omega arith) in
+      rw (layout-by-room (d .ci % 16) (d .bytes) n (omega arith) (length old), m)

@@ -204,14 +204,9 @@ module _ (on : Bool) (d : Desk) (m : Model) (s : Stands on d m) where
 
   -- ---- a send
 
-  -- nothing in the record is refused, so that only the room decides
-  pub send-by-room : (room : ℕ) → sendRefusal d room ≡ require (eqb room 262) (refusalPlain Room) passed
-  unfolding sendRefusal
-  send-by-room room = rw (s .bytes, s .clean .present .rules)
-
   pub send-stands : (room : ℕ) → Stands on (sent d room .desk) (sendM room m)
-  unfolding sent sendM
-  send-stands room = rw (send-by-room room) (by (eqb room 262))
+  unfolding sent sendRefusal sendM
+  send-stands room = by (eqb room 262)
     where
       by : (t : Bool) → Stands on
           (leftBy (require t (refusalPlain Room) passed) (record { bytes = d .bytes; correction = d .correction; ci = (d .ci % 16 + 1) % 16; steps = d .steps; count = d .count }) d)
@@ -231,11 +226,10 @@ module _ (on : Bool) (d : Desk) (m : Model) (s : Stands on d m) where
 
   -- the words sent are those of the present record, with the number of sends modulo 16 as their index
   pub sent-words : (old : List ℕ) → length old ≡ 262 → sendLeaves d old ≡ packetWords on (m .sends % 16) (m .present)
-  unfolding sendLeaves
+  unfolding sendLeaves sendRefusal
   sent-words old n =
       let c : d .ci % 16 ≡ m .sends % 16 = omega (arith, s .ci) in
-      let own : recordOf (d .bytes) ≡ m .present = ap recordOf (s .bytes) ∙ s .clean .present .own in
-      rw (send-by-room (length old), n) (λ i. packetWords (s .correction i) (c i) (own i))
+      rw n (λ i. packetWords (s .correction i) (c i) (s .bytes i))
 
 -- ---- undo after an edit, and the index
 

@@ -21,9 +21,9 @@ use Rattle.anc.specs.Words.{narrow}
 use Rattle.reading.specs.Reading.{indexOf, protectedOf}
 use Rattle.desk.specs.declared.Desk.{Desk}
 use Rattle.desk.specs.declared.Turn.{Turn}
-use Rattle.desk.specs.Desk.{sent as sent-turn}
+use Rattle.desk.specs.Desk.{sendRefusal, sent as sent-turn}
 use Rattle.desk.specs.Model.{Model, sendM}
-use Rattle.desk.proofs.Laws.Model.{edit-sends, undo-sends, one-sent, none-sent, send-by-room}
+use Rattle.desk.proofs.Laws.Model.{edit-sends, undo-sends, one-sent, none-sent}
 use Rattle.sequence.specs.declared.Kind.{Kind}
 use Rattle.sequence.specs.declared.Kind.the-variants.{First, Next, Repeat}
 use Rattle.sequence.specs.Sequence.{repeatsIn}
@@ -324,10 +324,8 @@ known s (repeats {s = s₀} {before = h} {arrived = arrived} {answer = a} l w D 
 -- a send into a buffer of another length is refused, on every line
 pub no-room-refused : (s : Scene) → Line s → (old : List ℕ) (t : Turn) (left : List ℕ) → Sends (s .desk) old t left → (length old ≡ 262 → ⊥)
     → t .checked ≡ Refused (refusalPlain Room)
-unfolding sent-turn
-no-room-refused s l old t left S n =
-    let stood = stands true (s .desk) (s .history) (known s l .desk) in
-    ap (λ (x : Turn). x .checked) (sends-is (s .desk) old t left S) ∙ rw (send-by-room true (s .desk) (s .history) stood (length old), ne-eqb (length old) 262 n)
+unfolding sent-turn sendRefusal
+no-room-refused s l old t left S n = ap (λ (x : Turn). x .checked) (sends-is (s .desk) old t left S) ∙ rw (ne-eqb (length old) 262 n)
 
 -- the packet that waits on a line, or was delivered, has 254 protected words of ten bits each, and sound
 pub record Ordinary (words : List ℕ) : Type 0 where

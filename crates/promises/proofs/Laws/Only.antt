@@ -104,6 +104,8 @@ use Rattle.repair.proofs.repair.Kinds as packet-repair-types
 use Rattle.repair.proofs.repair.Reads as packet-repair-contract
 use Rattle.writing.proofs.write_packet.Kinds as write-packet-types
 use Rattle.writing.proofs.write_packet.Reads as write-packet-contract
+use Rattle.writing.proofs.write_layout.Kinds as write-layout-types
+use Rattle.writing.proofs.write_layout.Reads as write-layout-contract
 use Rattle.reading.proofs.read_packet.Kinds as read-packet-types
 use Rattle.reading.proofs.read_packet.Reads as read-packet-contract
 use Rattle.reading.proofs.read_packet_into.Kinds as read-packet-into-types
@@ -377,6 +379,9 @@ count-fixed κs i a b s t p q = p ∙ sym q
 
 pub write-packet : OneOutcome 2 write-packet-types.ps write-packet-types.r (λ κs s. now (s .1 .1 .1 .0)) write-packet-contract.Learnt
 write-packet κs i a b s t p q = (p .0 ∙ sym (q .0), p .1 ∙ sym (q .1))
+
+pub write-layout : OneOutcome 2 write-layout-types.ps write-layout-types.r (λ κs s. now (s .1 .1 .1 .0)) write-layout-contract.Learnt
+write-layout κs i a b s t p q = (p .0 ∙ sym (q .0), p .1 ∙ sym (q .1))
 
 pub read-packet : OneAnswer 1 read-packet-types.ps read-packet-types.r read-packet-contract.Learnt
 read-packet κs i a b s t p q = p ∙ sym q

@@ -35,7 +35,7 @@ use Rattle.record.specs.Record.{broken, contentRefusal, recordRefusal}
 use Rattle.record.specs.Written.{writtenRefusal}
 use Rattle.record.specs.Stored.{putRefusedIn, putRefusal, storeRefusal}
 use Rattle.repair.specs.Protected.{countRefusal, repairRefusal}
-use Rattle.writing.specs.Writing.{writeRefusal}
+use Rattle.writing.specs.Writing.{givenRefusal, writeRefusal, layoutRefusal}
 use Rattle.reading.specs.Reading.{dataWords, headRefusal, protectedRefusal, bodyRefusal, readRefusal, readIntoRefusal}
 use Rattle.steps.specs.declared.Step.{Step}
 use Rattle.steps.specs.Steps.{stepRefusal, oldOf, backRefusal}
@@ -283,8 +283,12 @@ unfolding countRefusal numberOf
 count-right words bytes = search checks
 
 pub write-right : (ci : ℕ) (bytes : List ℕ) (room : ℕ) → RightIn 0 (writeRefusal ci bytes room)
-unfolding writeRefusal numberOf
+unfolding givenRefusal writeRefusal numberOf
 write-right ci bytes room = search (checks, content-right) depth 8
+
+pub layout-right : (ci : ℕ) (bytes : List ℕ) (room : ℕ) → RightIn 0 (layoutRefusal ci bytes room)
+unfolding givenRefusal layoutRefusal numberOf
+layout-right ci bytes room = search checks
 
 head-right : {last : ℕ} (words : List ℕ) → RightIn last (headRefusal words)
 unfolding headRefusal numberOf
@@ -320,9 +324,9 @@ pub undo-right : (d : Desk) → RightIn 0 (undoRefusal d)
 unfolding undoRefusal numberOf
 undo-right d = search checks
 
-pub send-right : (d : Desk) (room : ℕ) → RightIn 0 (sendRefusal d room)
+pub send-right : (room : ℕ) → RightIn 0 (sendRefusal room)
 unfolding sendRefusal numberOf
-send-right d room = search checks
+send-right room = search checks
 
 pub pack-right : (line offset : ℕ) (words : List ℕ) (room : ℕ) → RightIn 0 (packRefusal line offset words room)
 unfolding packRefusal numberOf

@@ -21,7 +21,7 @@ use Rattle.view.specs.Read.{recordReadOf}
 use Rattle.repair.specs.Repair.{refusalIn as refusalInRepair}
 use Rattle.repair.proofs.Laws.Repair.{refusal-said as repair-said, count-said}
 use Rattle.writing.specs.Written.{refusalIn as refusalInWriting}
-use Rattle.writing.proofs.Laws.Writing.{refusal-said as write-said}
+use Rattle.writing.proofs.Laws.Writing.{refusal-said as write-said, layout-said}
 use Rattle.reading.specs.Answer.{refusalIn as refusalInReading}
 use Rattle.reading.proofs.Laws.Answer.{refusal-said as read-said, into-refusal-said as into-said}
 use Rattle.steps.specs.Steps.{keptOf}
@@ -39,7 +39,7 @@ use Rattle.follower.specs.declared.Heard.the-variants.{Accepted as Arrived, Ref
 use Rattle.answers.specs.Answers.{answerBy, packetFrom, heardFrom, followedFrom}
 use Rattle.answers.proofs.Laws.Done.{Says, word-says, verdict-says, packet-says, repaired-says, field-says, turn-says, followed-says}
 use Rattle.promises.specs.Places.{RightPlace, RightIn, BitsBeside, PlacesRight, AnswersRight, BitsRight}
-use Rattle.promises.proofs.Laws.Placed.{check-right, words-right, fill-right, block-right, decode-right, marked-right, place-right, item-right, record-right, written-right, put-right, store-right, repair-right, count-right, write-right, read-right, into-right, step-right, back-right, undo-right, send-right, pack-right, unpack-right}
+use Rattle.promises.proofs.Laws.Placed.{check-right, words-right, fill-right, block-right, decode-right, marked-right, place-right, item-right, record-right, written-right, put-right, store-right, repair-right, count-right, write-right, layout-right, read-right, into-right, step-right, back-right, undo-right, send-right, pack-right, unpack-right}
 use Rattle.soundness.proofs.check_word.Kinds as check-word-types
 use Rattle.soundness.proofs.check_word.Reads as check-word-contract
 use Rattle.soundness.proofs.check_words.Kinds as check-words-types
@@ -78,6 +78,8 @@ use Rattle.repair.proofs.count_fixed.Kinds as count-fixed-types
 use Rattle.repair.proofs.count_fixed.Reads as count-fixed-contract
 use Rattle.writing.proofs.write_packet.Kinds as write-packet-types
 use Rattle.writing.proofs.write_packet.Reads as write-packet-contract
+use Rattle.writing.proofs.write_layout.Kinds as write-layout-types
+use Rattle.writing.proofs.write_layout.Reads as write-layout-contract
 use Rattle.reading.proofs.read_packet.Kinds as read-packet-types
 use Rattle.reading.proofs.read_packet.Reads as read-packet-contract
 use Rattle.reading.proofs.read_packet_into.Kinds as read-packet-into-types
@@ -197,6 +199,9 @@ count-fixed κs i a s p = rw (p, count-said) (count-right _ _)
 pub write-packet : PlacesRight 2 write-packet-types.ps write-packet-types.r 0 (λ κs. refusalInWriting) write-packet-contract.Learnt
 write-packet κs i a s p = rw (p .0, write-said) (write-right _ _ _)
 
+pub write-layout : PlacesRight 2 write-layout-types.ps write-layout-types.r 0 (λ κs. refusalInWriting) write-layout-contract.Learnt
+write-layout κs i a s p = rw (p .0, layout-said) (layout-right _ _ _)
+
 pub read-packet : PlacesRight 1 read-packet-types.ps read-packet-types.r 248 (λ κs. refusalInReading) read-packet-contract.Learnt
 read-packet κs i a s p = rw (p, read-said) (read-right _)
 
@@ -222,7 +227,7 @@ desk-undo κs i a s p = rw (p, refusal-in) (undo-right _)
 
 pub desk-send : PlacesRight 1 desk-send-types.ps desk-send-types.r 0 (λ κs a. refusalIn (a .checked)) desk-send-contract.Learnt
 unfolding sent
-desk-send κs i a s p = rw (p .0, refusal-in) (send-right _ _)
+desk-send κs i a s p = rw (p .0, refusal-in) (send-right _)
 
 -- ---- follower
 
@@ -291,7 +296,7 @@ ay-desk-undo κs i a s p = rw p (says-right (turn-says _) (rw refusal-in (undo-r
 
 pub ay-desk-send : AnswersRight 1 ay-desk-send-types.ps ay-desk-send-types.r 0 (λ κs a. a .number) (λ κs a. a .place) ay-desk-send-contract.Learnt
 unfolding sent
-ay-desk-send κs i a s p = rw (p .0) (says-right (turn-says _) (rw refusal-in (send-right _ _)))
+ay-desk-send κs i a s p = rw (p .0) (says-right (turn-says _) (rw refusal-in (send-right _)))
 
 pub ay-follower-follow : AnswersRight 1 ay-follower-follow-types.ps ay-follower-follow-types.r 248 (λ κs a. a .number) (λ κs a. a .place) ay-follower-follow-contract.Learnt
 ay-follower-follow κs i a s p = rw p (says-right (followed-says _) (rw refusal-heard (read-right _)))

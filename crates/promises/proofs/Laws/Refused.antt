@@ -8,9 +8,9 @@ use Prim.Native.Nat.{ℕ}
 use denote.Ref.{now}
 use lib.ListN.{length}
 use Rattle.refusal.specs.Chain.{leftBy}
-use Rattle.refusal.specs.Number.{fixedList, numberOf}
+use Rattle.refusal.specs.Number.{fixedList, retired, numberOf}
 use Rattle.refusal.specs.declared.Refusal.{Refusal}
-use Rattle.refusal.proofs.Laws.Number.{number-on-list}
+use Rattle.refusal.proofs.Laws.Number.{number-on-list, not-retired}
 use Rattle.anc.specs.Words.{lowBytes, soundWords, fillRefusal, fillLeaves}
 use Rattle.rs.specs.Decode.{decodeRefusal}
 use Rattle.rs.proofs.Laws.Decode.{refused-keeps}
@@ -24,10 +24,10 @@ use Rattle.record.specs.Written.{writtenRefusal, written}
 use Rattle.steps.specs.Steps.{backRefusal, backFrom}
 use Rattle.refusal.proofs.Laws.Chain.{refusal-in}
 use Rattle.repair.specs.Repair.{repairLeaves, refusalIn as refusalInRepair}
-use Rattle.writing.specs.Written.{writeLeaves, refusalIn as refusalInWriting}
+use Rattle.writing.specs.Written.{writeLeaves, layoutLeaves, refusalIn as refusalInWriting}
 use Rattle.reading.specs.Answer.{readLeaves, refusalIn as refusalInReading}
 use Rattle.repair.proofs.Laws.Repair.{refusal-said as repair-said}
-use Rattle.writing.proofs.Laws.Writing.{refusal-said as write-said}
+use Rattle.writing.proofs.Laws.Writing.{refusal-said as write-said, layout-said}
 use Rattle.reading.proofs.Laws.Answer.{into-refusal-said as read-said}
 use Rattle.desk.specs.declared.Desk.{Desk}
 use Rattle.desk.specs.declared.Turn.{Turn}
@@ -68,6 +68,8 @@ use Rattle.repair.proofs.repair.Kinds as repair-types
 use Rattle.repair.proofs.repair.Reads as repair-contract
 use Rattle.writing.proofs.write_packet.Kinds as write-packet-types
 use Rattle.writing.proofs.write_packet.Reads as write-packet-contract
+use Rattle.writing.proofs.write_layout.Kinds as write-layout-types
+use Rattle.writing.proofs.write_layout.Reads as write-layout-contract
 use Rattle.reading.proofs.read_packet_into.Kinds as read-packet-into-types
 use Rattle.reading.proofs.read_packet_into.Reads as read-packet-into-contract
 use Rattle.b40.specs.Packing.{packLeaves}
@@ -98,6 +100,10 @@ use Rattle.capi.proofs.ay_desk_send.Reads as ay-desk-send-contract
 pub listed : (why : Refusal) → List·Memᴰ (numberOf (why .reason)) fixedList
 listed why = number-on-list (why .reason)
 
+-- which is none that is retired
+pub never-retired : (why : Refusal) → List·Memᴰ (numberOf (why .reason)) retired → ⊥
+never-retired why = not-retired (why .reason)
+
 -- ---- the buffers
 
 -- what a refusal leaves
@@ -111,6 +117,10 @@ packet-repair κs i a s p (why, e) = p .1 ∙ kept _ why _ _ (sym (repair-said (
 pub write-packet : RefusedKeeps 2 write-packet-types.ps write-packet-types.r (λ κs. Tells refusalInWriting) (λ κs i. now (i .1 .1 .1 .0)) (λ κs s. now (s .1 .1 .1 .0)) write-packet-contract.Learnt
 unfolding writeLeaves
 write-packet κs i a s p (why, e) = p .1 ∙ kept _ why _ _ (sym (write-said (i .1 .0) (now (i .1 .1 .0)) (length (now (i .1 .1 .1 .0)))) ∙ ap refusalInWriting (sym (p .0)) ∙ e)
+
+pub write-layout : RefusedKeeps 2 write-layout-types.ps write-layout-types.r (λ κs. Tells refusalInWriting) (λ κs i. now (i .1 .1 .1 .0)) (λ κs s. now (s .1 .1 .1 .0)) write-layout-contract.Learnt
+unfolding layoutLeaves
+write-layout κs i a s p (why, e) = p .1 ∙ kept _ why _ _ (sym (layout-said (i .1 .0) (now (i .1 .1 .0)) (length (now (i .1 .1 .1 .0)))) ∙ ap refusalInWriting (sym (p .0)) ∙ e)
 
 pub read-packet-into : RefusedKeeps 2 read-packet-into-types.ps read-packet-into-types.r (λ κs. Tells refusalInReading) (λ κs i. now (i .1 .0)) (λ κs s. now (s .1 .0)) read-packet-into-contract.Learnt
 unfolding readLeaves
@@ -134,7 +144,7 @@ store-item κs i a s p (why, e) = p .1 ∙ kept _ why _ _ (checked-said (storeRe
 
 pub desk-send : RefusedKeeps 1 send-types.ps send-types.r (λ κs a. Tells refusalIn (a .checked)) (λ κs i. now (i .1 .0)) (λ κs s. now (s .1 .0)) send-contract.Learnt
 unfolding sendLeaves sent
-desk-send κs i a s p (why, e) = p .1 ∙ kept _ why _ _ (checked-said (sendRefusal (i .0) (length (now (i .1 .0)))) (a .checked) why (ap (λ (t : Turn). t .checked) (p .0)) e)
+desk-send κs i a s p (why, e) = p .1 ∙ kept _ why _ _ (checked-said (sendRefusal (length (now (i .1 .0)))) (a .checked) why (ap (λ (t : Turn). t .checked) (p .0)) e)
 
 pub write-record : RefusedKeeps 2 write-record-types.ps write-record-types.r (λ κs. Tells refusalIn) (λ κs i. now (i .1 .0)) (λ κs s. now (s .1 .0)) write-record-contract.Learnt
 unfolding written
@@ -200,7 +210,7 @@ ay-unpack κs i a s p z =
 pub ay-desk-send : RefusedKeeps 1 ay-desk-send-types.ps ay-desk-send-types.r (λ κs a. NotZero (a .number)) (λ κs i. now (i .1 .0)) (λ κs s. now (s .1 .0)) ay-desk-send-contract.Learnt
 unfolding sendLeaves sent
 ay-desk-send κs i a s p z =
-    p .1 ∙ kept-for-c _ _ (a .number) _ _ (ap (λ (x : AyTurn). x .number) (p .0) ∙ turn-says _ .number-is) (refusal-in (sendRefusal (i .0) (length (now (i .1 .0))))) z
+    p .1 ∙ kept-for-c _ _ (a .number) _ _ (ap (λ (x : AyTurn). x .number) (p .0) ∙ turn-says _ .number-is) (refusal-in (sendRefusal (length (now (i .1 .0))))) z
 
 -- ---- the desk
 
@@ -220,7 +230,7 @@ pub send-refused : (d : Desk) (old : List ℕ) (t : Turn) (left : List ℕ) (why
 unfolding sent
 send-refused d old t left why S e =
     let is = sends-is d old t left S in
-    ap (λ (x : Turn). x .desk) is ∙ kept _ why _ d (checked-said (sendRefusal d (length old)) (t .checked) why (ap (λ (x : Turn). x .checked) is) e)
+    ap (λ (x : Turn). x .desk) is ∙ kept _ why _ d (checked-said (sendRefusal (length old)) (t .checked) why (ap (λ (x : Turn). x .checked) is) e)
 
 -- ---- the follower
 

@@ -1,5 +1,4 @@
--- The reserved area, as the calls treat it: 15 is given exactly where a byte of it is not zero, at the first; what is accepted loses nothing there; and a desk
--- made by hand that uses it is not sent.
+-- The reserved area, as the calls treat it: 15 is given exactly where a byte of it is not zero, at the first, and what is accepted loses nothing there.
 -- Assumes nothing.
 use mathlib.Core.Path.{_≡_, sym, ap, _∙_}
 use mathlib.Core.Bool.{Bool}
@@ -9,14 +8,14 @@ use mathlib.Core.Option.{Option, some}
 use Prim.Native.Nat.{ℕ, _≤_}
 use lib.ListN.{length}
 use Rattle.refusal.specs.Checked.{refusalIn as refusalInCheck}
-use Rattle.refusal.specs.Number.{refusalAt, refusalPlain}
-use Rattle.refusal.specs.declared.Reason.the-variants.{ReservedArea, BrokenDesk}
+use Rattle.refusal.specs.Number.{refusalAt}
+use Rattle.refusal.specs.declared.Reason.the-variants.{ReservedArea}
 use Rattle.refusal.specs.declared.Checked.{Checked}
 use Rattle.refusal.specs.declared.Refusal.{Refusal}
 use Rattle.refusal.proofs.Laws.Chain.{refusal-in}
-use Rattle.record.specs.Reserved.{reservedArea, Used, FirstUsed}
+use Rattle.record.specs.Reserved.{reservedArea, FirstUsed}
 use Rattle.record.specs.Record.{recordOf, recordRefusal}
-use Rattle.record.proofs.Laws.Reserved.{used-first, content-first, refusal-first}
+use Rattle.record.proofs.Laws.Reserved.{used-first, refusal-first}
 use Rattle.record.proofs.Laws.Record.{record-keeps}
 use Rattle.view.specs.declared.RecordRead.{RecordRead}
 use Rattle.view.specs.Read.{recordReadOf}
@@ -34,13 +33,9 @@ use Rattle.reading.proofs.Laws.Whole.{read-reserved}
 use Rattle.follower.specs.declared.Follower.{Follower}
 use Rattle.follower.specs.declared.Followed.{Followed}
 use Rattle.follower.specs.Follower.{refusalIn as refusalInHeard}
-use Rattle.desk.specs.declared.Desk.{Desk}
-use Rattle.desk.specs.declared.Turn.{Turn}
-use Rattle.desk.specs.Desk.{sent, sendRefusal}
-use Rattle.promises.specs.Calls.{Sends, Follows}
+use Rattle.promises.specs.Calls.{Follows}
 use Rattle.promises.specs.PacketCalls.{ChecksRecord, ReadsRecord, Writes, ReadsPacket, ReadsInto}
 use Rattle.promises.specs.Reserved.{ReservedExactly}
-use Rattle.promises.proofs.Laws.Calls.{sends-is}
 use Rattle.promises.proofs.Laws.PacketCalls.{checks-record-is, reads-record-is, writes-is}
 use Rattle.promises.proofs.Laws.Packets.{read-tells, into-tells, follow-tells, accepted, record-left}
 
@@ -89,12 +84,3 @@ written-keeps on ci bytes old left W =
 
 pub read-keeps : (words old : List ℕ) (p : Packet) (left : List ℕ) → ReadsInto words old (Accepted p) left → reservedArea left ≡ reservedArea (readBytes words)
 read-keeps words old p left R = ap reservedArea (record-left words old p left R) ∙ read-reserved words (accepted words old p left R .0)
-
--- ---- a desk value that uses the area is broken
-
-pub send-reserved : (d : Desk) (old : List ℕ) (a : Turn) (left : List ℕ) → Sends d old a left → (n : ℕ) → Used (d .bytes) n
-    → refusalInCheck (a .checked) ≡ some (refusalPlain BrokenDesk)
-unfolding sent sendRefusal
-send-reserved d old a left S n u =
-    let (place, F) = used-first (d .bytes) n u in
-    ap (λ (t : Turn). refusalInCheck (t .checked)) (sends-is d old a left S) ∙ rw (content-first (d .bytes) place .1 F)

@@ -1,19 +1,36 @@
--- A desk that was opened cannot break: whatever edits, undos and sends follow, refused ones among them, nothing in its bytes is refused.
+-- A desk that was opened cannot break: whatever edits, undos and sends follow, refused ones among them, nothing in its bytes is refused. So send need not
+-- check them: it sends the bytes of any desk value as they stand, and those of a desk that was opened are its record.
 -- Assumes nothing.
 use mathlib.Core.Path.{_≡_, sym, ap, _∙_, subst}
 use mathlib.Core.Bool.{Bool}
+use mathlib.Core.List.{List}
+use Prim.Native.Nat.{ℕ, _%_}
+use native.Mathlib.Omega.{arith}
+use lib.ListN.{length}
+use borrow.Author.Tests.{ne-eqb}
 use Rattle.refusal.specs.Checked.{checkedOf}
 use Rattle.refusal.specs.declared.Checked.{Checked}
 use Rattle.refusal.specs.declared.Checked.the-variants.{Passed}
+use Rattle.record.specs.Record.{recordOf}
 use Rattle.record.proofs.Laws.Reserved.{content-decides, content-zero, content-rules}
 use Rattle.record.proofs.Laws.Stored.{CleanRecord}
+use Rattle.writing.specs.declared.Written.{Written}
+use Rattle.writing.specs.Layout.{packetWords}
+use Rattle.writing.specs.Writing.{writtenWords}
+use Rattle.writing.proofs.Laws.Writing.{done-wrote, wrote-done}
 use Rattle.desk.specs.declared.Desk.{Desk}
+use Rattle.desk.specs.declared.Turn.{Turn}
+use Rattle.desk.specs.Desk.{sendRefusal, sent, sendLeaves}
 use Rattle.desk.specs.Model.{Model}
+use Rattle.promises.specs.Calls.{Sends}
+use Rattle.promises.specs.PacketCalls.{ChecksRecord, Writes}
 use Rattle.promises.specs.History.{History}
-use Rattle.promises.specs.PacketCalls.{ChecksRecord}
-use Rattle.promises.specs.Unbroken.{Unbroken}
-use Rattle.promises.proofs.Laws.History.{stands}
-use Rattle.promises.proofs.Laws.PacketCalls.{checks-record-is}
+use Rattle.promises.specs.Unbroken.{Unbroken, SentAsTheyStand}
+use Rattle.promises.proofs.Laws.Calls.{sends-is, sends-leaves}
+use Rattle.promises.proofs.Laws.PacketCalls.{checks-record-is, writes-leaves}
+use Rattle.promises.proofs.Laws.History.{stands, sent-is}
+
+-- ---- a desk that was opened
 
 module _ (on : Bool) (d : Desk) (m : Model) (h : History on d m) where
   clean : CleanRecord (d .bytes)
@@ -31,3 +48,26 @@ module _ (on : Bool) (d : Desk) (m : Model) (h : History on d m) where
   -- and the call that checks a record passes them
   pub never-refused : (a : Checked) → ChecksRecord (d .bytes) a → a ≡ Passed
   never-refused a C = checks-record-is (d .bytes) a C ∙ ap checkedOf (content-decides (d .bytes) (clean .long) ∙ clean .rules)
+
+  module _ (old : List ℕ) (t : Turn) (left : List ℕ) (S : Sends d old t left) (n : length old ≡ 262) where
+    -- so the words sent are those of its record,
+    pub sent-record : left ≡ packetWords on (m .sends % 16) (recordOf (d .bytes))
+    sent-record = sent-is on d m h old t left S n .1 ∙ ap (packetWords on (m .sends % 16)) (sym (stands on d m h .bytes) ∙ sym (clean .own))
+
+    -- the very ones that the call that writes a packet from bytes writes from its bytes
+    pub sent-written : (a : Written) (words : List ℕ) → Writes on (m .sends % 16) (d .bytes) old a words → left ≡ words
+    unfolding writtenWords
+    sent-written a words W =
+        let done = wrote-done (m .sends % 16) (d .bytes) (clean .long) (omega arith) (clean .rules) in
+        sent-record ∙ sym (done-wrote on (m .sends % 16) (d .bytes) old (rw n done) .left) ∙ sym (writes-leaves on (m .sends % 16) (d .bytes) old a words W)
+
+-- ---- any desk value
+
+pub sent-as-they-stand : (d : Desk) (old : List ℕ) (t : Turn) (left : List ℕ) → Sends d old t left → SentAsTheyStand d old t left
+unfolding sent sendRefusal sendLeaves
+sent-as-they-stand d old t left S = record {
+  done = λ n. ap (λ (x : Turn). x .checked) (sends-is d old t left S) ∙ rw n;
+  words = λ n. sends-leaves d old t left S ∙ rw n;
+  index = λ n. ap (λ (x : Turn). x .desk .ci) (sends-is d old t left S) ∙ rw n;
+  no-room = λ n. ap (λ (x : Turn). x .checked) (sends-is d old t left S) ∙ rw (ne-eqb (length old) 262 n);
+}

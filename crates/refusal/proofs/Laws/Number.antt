@@ -1,20 +1,21 @@
--- The numbers of the reasons are those of the fixed list, and no two reasons share one; 7, and no other, comes with bits.
+-- The numbers of the reasons are those of the fixed list, and no two reasons share one; a retired number is not among them; 7, and no other, comes
+-- with bits.
 -- Assumes nothing.
 use mathlib.Core.Path.{_≡_, refl, sym, _∙_}
 use mathlib.Core.Bool.{Bool, true, false, cond, _||_}
 use mathlib.Core.List.{List, [], _∷_, map, List·Memᴰ, List·Memᴰ·head, List·Memᴰ·tail}
 use Prim.Native.Nat.{ℕ, _≤_}
 use lib.Dec.{T, eqb, leb, leb→le}
-use borrow.Author.Tests.{eqb-true}
-use Rattle.refusal.specs.Number.{numberOf, bitsOf, bitsIn, fixedList}
+use borrow.Author.Tests.{eqb-true, eq-eqb}
+use Rattle.refusal.specs.Number.{numberOf, bitsOf, bitsIn, fixedList, retired}
 use Rattle.refusal.specs.declared.Wrong.{Wrong}
 use Rattle.refusal.specs.declared.Wrong.the-variants.{B8, B9, Both}
 use Rattle.refusal.specs.declared.Reason.{Reason}
-use Rattle.refusal.specs.declared.Reason.the-variants.{Length, Wide, Flag, Kind, Count, Header, Parity, Fill, BeyondRepair, Checksum, Station, Time, Picture, Sound, ReservedArea, Item, Size, NothingToUndo, Room, BrokenDesk, FieldLength, FieldHead, Index}
+use Rattle.refusal.specs.declared.Reason.the-variants.{Length, Wide, Flag, Kind, Count, Header, Parity, Fill, BeyondRepair, Checksum, Station, Time, Picture, Sound, ReservedArea, Item, Size, NothingToUndo, Room, FieldLength, FieldHead, Index}
 
 -- the reasons, in the order of the fixed list, where this is wrong with the word of 7
 unfoldable pub reasons : Wrong → List Reason
-reasons wrong = Length ∷ Wide ∷ Flag ∷ Kind ∷ Count ∷ Header ∷ Parity wrong ∷ Fill ∷ BeyondRepair ∷ Checksum ∷ Station ∷ Time ∷ Picture ∷ Sound ∷ ReservedArea ∷ Item ∷ Size ∷ NothingToUndo ∷ Room ∷ BrokenDesk ∷ FieldLength ∷ FieldHead ∷ Index ∷ []
+reasons wrong = Length ∷ Wide ∷ Flag ∷ Kind ∷ Count ∷ Header ∷ Parity wrong ∷ Fill ∷ BeyondRepair ∷ Checksum ∷ Station ∷ Time ∷ Picture ∷ Sound ∷ ReservedArea ∷ Item ∷ Size ∷ NothingToUndo ∷ Room ∷ FieldLength ∷ FieldHead ∷ Index ∷ []
 
 -- the fixed list is the numbers of the reasons, in order, and holds nothing else
 pub list-of-reasons : (wrong : Wrong) → fixedList ≡ map numberOf (reasons wrong)
@@ -34,6 +35,15 @@ on-list n (m ∷ ms) t = here (eqb n m) refl (on-list n ms) t
     here : (b : Bool) → eqb n m ≡ b → (T (isOn n ms) → List·Memᴰ n ms) → T (b || isOn n ms) → List·Memᴰ n (m ∷ ms)
     here true e later t = List·Memᴰ·head (eqb-true n m e)
     here false e later t = List·Memᴰ·tail (later t)
+
+test-on : {n : ℕ} {ms : List ℕ} → List·Memᴰ n ms → T (isOn n ms)
+unfolding isOn
+test-on {n = n} (List·Memᴰ·head {x} {xs} e) = rw (eq-eqb n x e) tt
+test-on {n = n} (List·Memᴰ·tail {x} {xs} l) = or-right (eqb n x) (isOn n xs) (test-on l)
+  where
+    or-right : (a b : Bool) → T b → T (a || b)
+    or-right true b t = tt
+    or-right false b t = t
 
 -- the first of some reasons whose number is `n`; where there is none, any will do
 named : ℕ → List Reason → Reason
@@ -76,7 +86,6 @@ at-each =
       | Size ↦ (tt, refl, refl, tt)
       | NothingToUndo ↦ (tt, refl, refl, tt)
       | Room ↦ (tt, refl, refl, tt)
-      | BrokenDesk ↦ (tt, refl, refl, tt)
       | FieldLength ↦ (tt, refl, refl, tt)
       | FieldHead ↦ (tt, refl, refl, tt)
       | Index ↦ (tt, refl, refl, tt)
@@ -85,6 +94,37 @@ at-each =
 -- the number of every reason is on the fixed list
 pub number-on-list : (why : Reason) → List·Memᴰ (numberOf why) fixedList
 number-on-list why = on-list (numberOf why) fixedList (at-each why .0)
+
+-- ---- no number is given again
+
+-- whether none of some numbers is on a list, as a test to compute
+noneOn : List ℕ → List ℕ → Bool
+noneOn [] ms = true
+noneOn (n ∷ ns) ms = cond (isOn n ms) false (noneOn ns ms)
+
+none-on : {n : ℕ} {ns ms : List ℕ} → T (noneOn ns ms) → List·Memᴰ n ns → List·Memᴰ n ms → ⊥
+unfolding noneOn
+none-on {n = n} {ms = ms} t (List·Memᴰ·head {x} {xs} e) l = here (isOn x ms) (test-on (rw (← e) l)) t
+  where
+    here : (b : Bool) → T b → T (cond b false (noneOn xs ms)) → ⊥
+    here true p t = t
+    here false p t = p
+none-on {ms = ms} t (List·Memᴰ·tail {x} {xs} k) l = none-on (later (isOn x ms) t) k l
+  where
+    later : (b : Bool) → T (cond b false (noneOn xs ms)) → T (noneOn xs ms)
+    later true t = absurd t
+    later false t = t
+
+-- no retired number is on the fixed list
+pub retired-off : (n : ℕ) → List·Memᴰ n retired → List·Memᴰ n fixedList → ⊥
+unfolding noneOn isOn retired fixedList
+retired-off n = none-on tt
+
+-- so that no reason has one
+pub not-retired : (why : Reason) → List·Memᴰ (numberOf why) retired → ⊥
+not-retired why r = retired-off (numberOf why) r (number-on-list why)
+
+-- ---- a reason is known by its number and its bits
 
 -- two reasons with the same number and the same bits are the same reason
 pub number-inj : (a b : Reason) → numberOf a ≡ numberOf b → bitsIn a ≡ bitsIn b → a ≡ b

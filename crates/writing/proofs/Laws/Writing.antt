@@ -1,5 +1,5 @@
--- How a packet is written: words stored one by one, parts laid over a buffer, the checksum stored last; and what the call answers in each
--- case of the chain of refusals.
+-- How a packet is written: words stored one by one, parts laid over a buffer, the checksum stored last; and what the calls answer by what their
+-- checks said.
 -- Assumes nothing.
 use mathlib.Core.Path.{_≡_, refl, sym, ap, ap₂, _∙_}
 use mathlib.Core.Bool.{Bool, cond}
@@ -25,16 +25,16 @@ use Rattle.record.specs.Reserved.{FirstUsed}
 use Rattle.record.specs.Record.{contentRefusal, recordOf, recordRefusal}
 use Rattle.record.specs.Written.{written}
 use Rattle.record.proofs.Laws.Reserved.{content-decides, content-first}
-use Rattle.record.proofs.Laws.Record.{record-fits}
-use Rattle.refusal.proofs.Laws.Chain.{require-passed, next-passed, require-behind, next-gives, other-number, without, never-gives, told}
+use Rattle.record.proofs.Laws.Record.{record-length, record-fits}
+use Rattle.refusal.proofs.Laws.Chain.{require-passed, next-passed, next-gives, next-behind, next-next, without, never-gives, told, chained-from, chained-more, chained-all, chained-last}
 use Rattle.basics.proofs.Laws.Parts.{over, last-one}
 use Rattle.writing.specs.declared.Written.{Written}
 use Rattle.writing.specs.declared.Written.the-variants.{Done, Refused}
 use Rattle.anc.specs.Words.{soundWords, flag}
 use Rattle.writing.specs.Layout.{kind, headerWord, protectedWords, summedWords, packetWords}
-use Rattle.refusal.specs.Chain.{leftBy}
-use Rattle.writing.specs.Writing.{writeRefusal, writtenWords}
-use Rattle.writing.specs.Written.{refusalIn, writtenBy, writtenOf, writeLeaves}
+use Rattle.refusal.specs.Chain.{require, passed, next, leftBy}
+use Rattle.writing.specs.Writing.{givenRefusal, writeRefusal, layoutRefusal, writtenWords}
+use Rattle.writing.specs.Written.{refusalIn, writtenBy, writtenOf, writeLeaves, layoutOf, layoutLeaves}
 use Rattle.anc.proofs.Laws.Words.{soundWords-length}
 use Rattle.writing.proofs.Laws.Layout.{length-protected}
 
@@ -87,7 +87,7 @@ module _ (old a b d t : List ℕ) (n : length old ≡ 262) (la : length a ≡ 3)
       ap (λ (r : List ℕ). set r 261 v) (laid-runs ∙ sym (append-assoc (a ++ b) (d ++ t) _))
       ∙ set-at ((a ++ b) ++ (d ++ t)) z [] v 261 l ∙ append-assoc (a ++ b) (d ++ t) _
 
--- the packet of a record
+-- the packet of 248 bytes
 pub packet-filled : (on : Bool) (ci : ℕ) (r old h d t : List ℕ) (sum : ℕ) → length r ≡ 248 → length old ≡ 262
     → h ≡ flag ++ kind ++ headerWord on ci ∷ [] → d ≡ soundWords r → t ≡ cond on (soundWords (parityOf r)) (replicate 6 0x200)
     → sum ≡ checksumOf (take 258 (drop 3 (laid old h d t))) → set (laid old h d t) 261 sum ≡ packetWords on ci r
@@ -106,61 +106,129 @@ packet-filled on ci r old h d t sum nr n eh ed et es =
 
 -- ---- the answer
 
--- what is said, and what is left in the lent buffer
-pub record Answer (on : Bool) (ci : ℕ) (bytes old : List ℕ) (said : Written) (left : List ℕ) : Type 0 where
-  pub right : said ≡ writtenOf ci bytes (length old)
-  pub kept : left ≡ writeLeaves on ci bytes old
+-- what is said, and what is left in the lent buffer, by what it is refused for
+pub record Answer (o : Option Refusal) (words old : List ℕ) (said : Written) (left : List ℕ) : Type 0 where
+  pub right : said ≡ writtenBy o
+  pub kept : left ≡ leftBy o words old
 
-module _ (on : Bool) (ci : ℕ) (bytes old : List ℕ) where
-  answer : (o : Option Refusal) → writeRefusal ci bytes (length old) ≡ o → Answer on ci bytes old (writtenBy o) (leftBy o (writtenWords on ci bytes) old)
-  unfolding writtenOf writeLeaves
-  answer o e = record {
-    right = sym (ap writtenBy e);
-    kept = sym (ap (λ (p : Option Refusal). leftBy p (writtenWords on ci bytes) old) e);
-  }
+pub answer : {o : Option Refusal} (p : Option Refusal) (words old : List ℕ) → o ≡ p → Answer o words old (writtenBy p) (leftBy p words old)
+answer p words old e = record { right = ap writtenBy (sym e); kept = ap (λ (x : Option Refusal). leftBy x words old) (sym e) }
 
-  pub wrong-size : (length bytes ≡ 248 → ⊥) → Answer on ci bytes old (Refused (refusalPlain Size)) old
+-- ---- what is given
+
+-- nothing of it is refused exactly where there are 248 bytes and the index is up to 15
+pub given-passed : (ci : ℕ) (bytes : List ℕ) → givenRefusal ci bytes ≡ none → (length bytes ≡ 248) × (ci ≤ 15)
+unfolding givenRefusal
+given-passed ci bytes e =
+    let a = require-passed (eqb (length bytes) 248) _ _ e in
+    let b = require-passed (leb ci 15) _ _ (a .1) in
+    (eqb-true (length bytes) 248 (a .0), leb-true ci 15 (b .0))
+
+pub given-passes : (ci : ℕ) (bytes : List ℕ) → length bytes ≡ 248 → ci ≤ 15 → givenRefusal ci bytes ≡ none
+unfolding givenRefusal
+given-passes ci bytes n i = simp (eq-eqb (length bytes) 248 n, le-leb ci 15 i)
+
+pub given-size : (ci : ℕ) (bytes : List ℕ) → (length bytes ≡ 248 → ⊥) → givenRefusal ci bytes ≡ some (refusalPlain Size)
+unfolding givenRefusal
+given-size ci bytes n = simp (ne-eqb (length bytes) 248 n)
+
+pub given-index : (ci : ℕ) (bytes : List ℕ) → length bytes ≡ 248 → 15 < ci → givenRefusal ci bytes ≡ some (refusalPlain Index)
+unfolding givenRefusal
+given-index ci bytes n i = simp (eq-eqb (length bytes) 248 n, lt-leb ci 15 i)
+
+-- ---- the bytes as they stand
+
+-- where nothing that is given is refused, only the room decides
+pub layout-by-room : (ci : ℕ) (bytes : List ℕ) → length bytes ≡ 248 → ci ≤ 15 → (room : ℕ)
+    → layoutRefusal ci bytes room ≡ require (eqb room 262) (refusalPlain Room) passed
+unfolding layoutRefusal
+layout-by-room ci bytes n i room = rw (given-passes ci bytes n i)
+
+-- what is not refused: 248 bytes, an index up to 15 and room for a packet
+pub record Laid (ci : ℕ) (bytes : List ℕ) (room : ℕ) : Type 0 where
+  pub long : length bytes ≡ 248
+  pub index : ci ≤ 15
+  pub roomy : room ≡ 262
+
+pub layout-passed : (ci : ℕ) (bytes : List ℕ) (room : ℕ) → layoutRefusal ci bytes room ≡ none → Laid ci bytes room
+unfolding layoutRefusal
+layout-passed ci bytes room e =
+    let a = next-passed (givenRefusal ci bytes) _ e in
+    let g = given-passed ci bytes (a .0) in
+    record { long = g .0; index = g .1; roomy = eqb-true room 262 (require-passed (eqb room 262) _ _ (a .1) .0) }
+
+module _ (on : Bool) (ci : ℕ) (bytes old : List ℕ) (given said : Checked) (eg : given ≡ checkedOf (givenRefusal ci bytes))
+    (e : said ≡ checkedOf (next (refusalInCheck given) (require (eqb (length old) 262) (refusalPlain Room) passed))) where
+  -- what the checks answer
+  layout-told : (a : Checked) → said ≡ a → layoutRefusal ci bytes (length old) ≡ refusalInCheck a
+  unfolding layoutRefusal
+  layout-told a s =
+      let c = chained-more {test = eqb (length old) 262} (refusalPlain Room) (chained-from (givenRefusal ci bytes) eg) e refl in
+      told _ said a (chained-all c) s
+
+  pub not-laid : (why : Refusal) → said ≡ Broken why → Answer (layoutRefusal ci bytes (length old)) (packetWords on ci bytes) old (Refused why) old
+  not-laid why s = answer (some why) _ old (layout-told (Broken why) s)
+
+  pub laid-passed : said ≡ Passed → Laid ci bytes (length old)
+  laid-passed s = layout-passed ci bytes (length old) (layout-told Passed s)
+
+  pub laid-right : said ≡ Passed → Answer (layoutRefusal ci bytes (length old)) (packetWords on ci bytes) old Done (packetWords on ci bytes)
+  laid-right s = answer none _ old (layout-told Passed s)
+
+-- ---- their record
+
+-- of any number of bytes, what is given and what is in them
+given-content : (ci : ℕ) (bytes : List ℕ) → next (givenRefusal ci bytes) (recordRefusal bytes) ≡ next (givenRefusal ci bytes) (contentRefusal bytes)
+given-content ci bytes = by (givenRefusal ci bytes) refl
+  where
+    by : (o : Option Refusal) → givenRefusal ci bytes ≡ o → next o (recordRefusal bytes) ≡ next o (contentRefusal bytes)
+    by none e = content-decides bytes (given-passed ci bytes e .0)
+    by (some why) e = refl
+
+-- where nothing is refused in them, their packet is that of their record as it stands
+pub write-layout : (ci : ℕ) (bytes : List ℕ) → length bytes ≡ 248 → ci ≤ 15 → contentRefusal bytes ≡ none → (room : ℕ)
+    → writeRefusal ci bytes room ≡ layoutRefusal ci (recordOf bytes) room
+unfolding writeRefusal
+write-layout ci bytes n i k room = rw (given-passes ci bytes n i, k) (sym (layout-by-room ci (recordOf bytes) (record-length bytes n) i room))
+
+module _ (on : Bool) (ci : ℕ) (bytes old : List ℕ) (given content said : Checked) (eg : given ≡ checkedOf (givenRefusal ci bytes))
+    (ec : content ≡ checkedOf (recordRefusal bytes)) (e : said ≡ checkedOf (next (refusalInCheck given) (refusalInCheck content))) where
+  -- what the two checks answer
+  both-said : (a : Checked) → said ≡ a → next (givenRefusal ci bytes) (contentRefusal bytes) ≡ refusalInCheck a
+  both-said a s = sym (given-content ci bytes) ∙ told _ said a (chained-last (recordRefusal bytes) (chained-from (givenRefusal ci bytes) eg) ec e) s
+
+  pub not-written : (why : Refusal) → said ≡ Broken why → Answer (writeRefusal ci bytes (length old)) (writtenWords on ci bytes) old (Refused why) old
   unfolding writeRefusal
-  wrong-size n = answer (some (refusalPlain Size)) (simp (ne-eqb (length bytes) 248 n))
+  not-written why s =
+      answer (some why) _ old (sym (next-next (givenRefusal ci bytes) (contentRefusal bytes) _) ∙ rw (both-said (Broken why) s))
 
-  pub wrong-index : length bytes ≡ 248 → 15 < ci → Answer on ci bytes old (Refused (refusalPlain Index)) old
-  unfolding writeRefusal
-  wrong-index n i = answer (some (refusalPlain Index)) (simp (eq-eqb (length bytes) 248 n, lt-leb ci 15 i))
+  module _ (s : said ≡ Passed) where
+    both-passed : (givenRefusal ci bytes ≡ none) × (contentRefusal bytes ≡ none)
+    both-passed = next-passed (givenRefusal ci bytes) (contentRefusal bytes) (both-said Passed s)
 
-  module _ (said : Checked) (n : length bytes ≡ 248) (i : ci ≤ 15) (e : said ≡ checkedOf (recordRefusal bytes)) where
-    -- what the check of 248 bytes answers is what is in them
-    rules-said : (a : Checked) → said ≡ a → contentRefusal bytes ≡ refusalInCheck a
-    rules-said a s = sym (content-decides bytes n) ∙ told (recordRefusal bytes) said a e s
-
-    pub rule-broken : (why : Refusal) → said ≡ Broken why → Answer on ci bytes old (Refused why) old
-    unfolding writeRefusal
-    rule-broken why s = answer (some why) (simp (eq-eqb (length bytes) 248 n, le-leb ci 15 i, rules-said (Broken why) s))
-
-    module _ (s : said ≡ Passed) where
-      rules-kept : contentRefusal bytes ≡ none
-      rules-kept = rules-said Passed s
-
-      pub wrong-room : (length old ≡ 262 → ⊥) → Answer on ci bytes old (Refused (refusalPlain Room)) old
-      unfolding writeRefusal
-      wrong-room m =
-          answer (some (refusalPlain Room)) (simp (eq-eqb (length bytes) 248 n, le-leb ci 15 i, rules-kept, ne-eqb (length old) 262 m))
-
-      -- the packet of what was written into 248 places
-      pub all-right : length old ≡ 262 → (place rec : List ℕ) → length place ≡ 248 → rec ≡ written bytes place → Answer on ci bytes old Done (packetWords on ci rec)
-      unfolding writeRefusal writtenWords written
-      all-right m place rec p w =
-          let r : rec ≡ recordOf bytes = w ∙ rw (record-fits bytes place n p) in
-          rw r
-          (answer none (simp (eq-eqb (length bytes) 248 n, le-leb ci 15 i, rules-kept, eq-eqb (length old) 262 m)))
+    -- the packet of what was written into 248 places
+    pub all-right : (place rec : List ℕ) → length place ≡ 248 → rec ≡ written bytes place
+        → Answer (writeRefusal ci bytes (length old)) (writtenWords on ci bytes) old (layoutOf ci rec (length old)) (layoutLeaves on ci rec old)
+    unfolding writtenWords written layoutOf layoutLeaves
+    all-right place rec p w =
+        let g = given-passed ci bytes (both-passed .0) in
+        let r : rec ≡ recordOf bytes = w ∙ rw (record-fits bytes place (g .0) p) in
+        rw r
+        (answer (layoutRefusal ci (recordOf bytes) (length old)) (packetWords on ci (recordOf bytes)) old
+        (write-layout ci bytes (g .0) (g .1) (both-passed .1) (length old)))
 
 -- the refusal that an answer gives is the one that the rules give
+pub said-in : (o : Option Refusal) → refusalIn (writtenBy o) ≡ o
+said-in none = refl
+said-in (some why) = refl
+
 pub refusal-said : (ci : ℕ) (bytes : List ℕ) (room : ℕ) → refusalIn (writtenOf ci bytes room) ≡ writeRefusal ci bytes room
 unfolding writtenOf
-refusal-said ci bytes room = go (writeRefusal ci bytes room)
-  where
-    go : (o : Option Refusal) → refusalIn (writtenBy o) ≡ o
-    go none = refl
-    go (some why) = refl
+refusal-said ci bytes room = said-in (writeRefusal ci bytes room)
+
+pub layout-said : (ci : ℕ) (bytes : List ℕ) (room : ℕ) → refusalIn (layoutOf ci bytes room) ≡ layoutRefusal ci bytes room
+unfolding layoutOf
+layout-said ci bytes room = said-in (layoutRefusal ci bytes room)
 
 -- ---- what a caller learns
 
@@ -176,33 +244,28 @@ pub done-wrote : (on : Bool) (ci : ℕ) (bytes old : List ℕ) → writtenOf ci 
 unfolding writeRefusal writeLeaves
 done-wrote on ci bytes old e =
     let passed : writeRefusal ci bytes (length old) ≡ none = sym (refusal-said ci bytes (length old)) ∙ ap refusalIn e in
-    let a = require-passed _ _ _ passed in
-    let b = require-passed _ _ _ (a .1) in
-    let c = next-passed _ _ (b .1) in
-    let d = require-passed _ _ _ (c .1) in
+    let a = next-passed (givenRefusal ci bytes) _ passed in
+    let g = given-passed ci bytes (a .0) in
+    let c = next-passed (contentRefusal bytes) _ (a .1) in
     record {
-      long = eqb-true _ _ (a .0);
-      index = leb-true _ _ (b .0);
+      long = g .0;
+      index = g .1;
       rules = c .0;
-      room = eqb-true _ _ (d .0);
+      room = eqb-true _ _ (require-passed (eqb (length old) 262) _ _ (c .1) .0);
       left = ap (λ (o : Option Refusal). leftBy o (writtenWords on ci bytes) old) passed;
     }
 
 -- and such bytes are not refused
 pub wrote-done : (ci : ℕ) (bytes : List ℕ) → length bytes ≡ 248 → ci ≤ 15 → contentRefusal bytes ≡ none → writtenOf ci bytes 262 ≡ Done
-unfolding writtenOf writeRefusal
-wrote-done ci bytes n i b = simp (eq-eqb (length bytes) 248 n, le-leb ci 15 i, b)
+unfolding writtenOf
+wrote-done ci bytes n i b = rw (write-layout ci bytes n i b 262, layout-by-room ci (recordOf bytes) (record-length bytes n) i 262)
 
 -- 15 is given exactly where the number of bytes and the index are right and a byte of the reserved area is not zero, at the first such byte
 pub write-used : (ci : ℕ) (bytes : List ℕ) (room place : ℕ)
     → (writeRefusal ci bytes room ≡ some (refusalAt ReservedArea place)) ↔ (((length bytes ≡ 248) × (ci ≤ 15)) × FirstUsed bytes place)
-unfolding writeRefusal numberOf
+unfolding writeRefusal givenRefusal numberOf
 write-used ci bytes room place =
     let fifteen : Refusal = refusalAt ReservedArea place in
-    Iff·trans (require-behind (eqb (length bytes) 248) (refusalPlain Size) fifteen _ (other-number _ _ refl))
-    (Iff·trans
-    (Iff·and (eqb-true (length bytes) 248, eq-eqb (length bytes) 248)
-    (Iff·trans (require-behind (leb ci 15) (refusalPlain Index) fifteen _ (other-number _ _ refl))
-    (Iff·and (leb-true ci 15, le-leb ci 15)
-    (Iff·trans (next-gives (contentRefusal bytes) _ fifteen (never-gives fifteen (search without))) (content-first bytes place)))))
-    (λ (n, (i, F)). ((n, i), F), λ ((n, i), F). (n, (i, F))))
+    Iff·trans (next-behind (givenRefusal ci bytes) _ fifteen (never-gives fifteen (search without)))
+    (Iff·and (given-passed ci bytes, λ (n, i). given-passes ci bytes n i)
+    (Iff·trans (next-gives (contentRefusal bytes) _ fifteen (never-gives fifteen (search without))) (content-first bytes place)))

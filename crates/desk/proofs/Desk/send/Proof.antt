@@ -1,56 +1,35 @@
--- `desk::Desk::send` meets its contract: each return is one case of the chain of refusals, by what its callees ensure.
+-- `desk::Desk::send` meets its contract: there is no room, or the packet of the desk's bytes is written.
 -- Assumes nothing.
 use mathlib.Core.Path.{_≡_, refl, _∙_}
 use lib.ListN.{length}
-use Rattle.record.proofs.Laws.Checks.{passed-long}
-use Rattle.desk.specs.Desk.{sent, sendLeaves}
-use Rattle.desk.proofs.Laws.Calls.{send-broken, send-room, send-passes, send-writes}
+use Rattle.desk.specs.Desk.{sendRefusal, sent, sendLeaves}
+use Rattle.desk.proofs.Laws.Calls.{send-room, send-writes}
 use borrow.Author.Needs.{needs}
 use Rattle.desk.proofs.Desk.send.Statement.{statement}
 use Rattle.desk.proofs.Desk.send.Tie as tie
 
-returns : tie.Need-returns
-returns c =
-    let k = c .before .before .before in
-    let a = k .before .before .before .before .args in
-    let n : length (a .self .bytes) ≡ 248 = search needs in
-    send-broken (a .self) (a .out .now) (k .record-refusal .result) n (k .record-refusal .ensures) _ _ (c .before .enum-told .given .1) (c .plain .ensures)
+no-room : tie.Need-returns
+no-room c =
+    let a = c .before .before .before .args in
+    send-room (a .self) (a .out .now) _ (c .before .if1 .taken) (c .plain .ensures)
 
-returns-2 : tie.Need-returns-2
-returns-2 c =
-    let t = c .before .before in
-    let k = t .before .before in
-    let a = k .before .before .before .before .args in
-    let n : length (a .self .bytes) ≡ 248 = search needs in
-    send-room (a .self) (a .out .now) (k .record-refusal .result) n (k .record-refusal .ensures) (t .enum-told2 .given .1) _ (c .before .if1 .taken) (c .plain2 .ensures)
-
-returns-3 : tie.Need-returns-3
-unfolding sent sendLeaves
-returns-3 c =
+written : tie.Need-returns-2
+unfolding sent sendLeaves sendRefusal
+written c =
     let w = c .before .before in
     let e = w .before .before .before .before .before in
-    let t = e .before in
-    let k = t .before .before in
-    let a = k .before .before .before .before .args in
-    let n = passed-long (a .self .bytes) (k .record-refusal .result) (k .record-refusal .ensures) (t .enum-told2 .given .1) in
-    let passes = send-passes (a .self) (a .out .now) (k .record-refusal .result) n (k .record-refusal .ensures) (t .enum-told2 .given .1) (e .if1 .left) in
-    let writes = send-writes (a .self) (a .out .now) (k .record-refusal .result) n (k .record-refusal .ensures) (t .enum-told2 .given .1) (e .if1 .left) in
-    rw passes (refl, w .write-packet .ensures .1 ∙ writes)
+    let a = e .before .before .args in
+    let n : length (a .self .bytes) ≡ 248 = search needs in
+    rw (e .if1 .left) (refl, w .write-layout .ensures .1 ∙ send-writes (a .self) (a .out .now) n (e .if1 .left))
 
 pub send-spec : {M : Type 1} → statement M
 send-spec =
     tie.close
     (tie.spec
-    (λ c. search needs)
     (λ c κs. search needs)
-    (λ c. search needs)
-    (λ c κs. search needs)
-    returns
-    (λ c. search needs)
-    (λ c κs. search needs)
-    returns-2
+    no-room
     (λ c. search needs)
     (λ c κs. search needs)
     (λ c. search needs)
     (λ c. search needs)
-    returns-3)
+    written)

@@ -13,11 +13,11 @@ returns c =
     let w = g .before .before .before .before in
     let f = w .before .before .before .before in
     let s = f .before .before .before .before in
-    packet-filled (s .args .correction) (s .args .ci) (s .args .rec .now) (s .args .out .now) _ _ _ _
+    packet-filled (s .args .correction) (s .args .ci) (s .args .bytes .now) (s .args .out .now) _ _ _ _
     (s .pre .1)
     (s .pre .2)
     (f .front .ensures)
-    (sound-filled _ (s .args .rec .now) _ (w .sound-words .ensures .1) (search needs))
+    (sound-filled _ (s .args .bytes .now) _ (w .sound-words .ensures .1) (search needs))
     (g .guard .ensures)
     (c .checksum .ensures)
 
