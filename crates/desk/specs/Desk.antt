@@ -4,15 +4,16 @@ use mathlib.Core.Bool.{Bool}
 use mathlib.Core.List.{List}
 use mathlib.Core.Option.{Option}
 use Prim.Native.Nat.{ℕ, _+_, _-_, _%_}
-use lib.Dec.{eqb, ltb}
+use lib.Dec.{ltb}
 use lib.ListN.{length, getD, replicate}
 use Rattle.refusal.specs.Chain.{require, passed, leftBy}
 use Rattle.refusal.specs.Number.{refusalPlain}
-use Rattle.refusal.specs.declared.Reason.the-variants.{NothingToUndo, Room}
+use Rattle.refusal.specs.declared.Reason.the-variants.{NothingToUndo}
 use Rattle.refusal.specs.declared.Refusal.{Refusal}
 use Rattle.items.specs.Item.{itemRefusal, cleanOf, putItem}
 use Rattle.refusal.specs.Checked.{checkedOf}
 use Rattle.writing.specs.Layout.{packetWords}
+use Rattle.writing.specs.Writing.{roomRefusal}
 use Rattle.steps.specs.declared.Step.{Step}
 use Rattle.steps.specs.Steps.{depth, stepRoom, heldOf, pushed, countOn, blank, stepOf, backFrom}
 use Rattle.desk.specs.declared.Desk.{Desk}
@@ -76,7 +77,7 @@ undone d =
 
 -- room for so many words, whatever the desk
 unfoldable pub sendRefusal : ℕ → Option Refusal
-sendRefusal room = require (eqb room 262) (refusalPlain Room) passed
+sendRefusal room = roomRefusal room
 
 -- CI modulo 16 is sent, and the next is counted on from it
 unfoldable pub sent : Desk → ℕ → Turn

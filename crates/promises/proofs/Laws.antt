@@ -1,4 +1,4 @@
--- The promises: worked values; demand 1 (Only, Refused, Places), demand 2 (Packets, Words, Reserved, History, Unbroken, Private) and demand 3 (Line, with a
+-- The promises: worked values; demand 1 (Only, Refused, Places), demand 2 (Packets, Words, Reserved, Sent, History, Unbroken, Private) and demand 3 (Line, with a
 -- line worked out); what is printed; and what a check is worth (Checking).
 pub mod Values
 pub mod Only
@@ -11,6 +11,7 @@ pub mod Checking
 pub mod Refused
 pub mod Placed
 pub mod Places
+pub mod Sent
 pub mod History
 pub mod Unbroken
 pub mod Private

@@ -10,5 +10,6 @@ pub mod Private
 pub mod Checking
 pub mod Packets
 pub mod History
+pub mod Sent
 pub mod Unbroken
 pub mod Line

@@ -17,13 +17,17 @@ use Rattle.writing.specs.Layout.{packetWords}
 unfoldable pub givenRefusal : ℕ → List ℕ → Option Refusal
 givenRefusal ci bytes = require (eqb (length bytes) 248) (refusalPlain Size) (require (leb ci 15) (refusalPlain Index) passed)
 
+-- 23: room for so many words
+abbrev pub roomRefusal : ℕ → Option Refusal
+roomRefusal room = require (eqb room 262) (refusalPlain Room) passed
+
 -- 21, 27, 15, 11 to 14, 23: the record of the bytes, into room for so many words
 unfoldable pub writeRefusal : ℕ → List ℕ → ℕ → Option Refusal
-writeRefusal ci bytes room = next (givenRefusal ci bytes) (next (contentRefusal bytes) (require (eqb room 262) (refusalPlain Room) passed))
+writeRefusal ci bytes room = next (givenRefusal ci bytes) (next (contentRefusal bytes) (roomRefusal room))
 
 -- 21, 27, 23: the bytes as they stand, whatever is in them
 unfoldable pub layoutRefusal : ℕ → List ℕ → ℕ → Option Refusal
-layoutRefusal ci bytes room = next (givenRefusal ci bytes) (require (eqb room 262) (refusalPlain Room) passed)
+layoutRefusal ci bytes room = next (givenRefusal ci bytes) (roomRefusal room)
 
 -- the words of the bytes' record
 unfoldable pub writtenWords : Bool → ℕ → List ℕ → List ℕ

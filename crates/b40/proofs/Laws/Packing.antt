@@ -1,39 +1,19 @@
--- What packing answers and leaves by its checks, what it accepts, and what its answers say.
+-- What packing accepts, and what its answers say.
 -- Assumes nothing.
 use mathlib.Core.Path.{_≡_}
-use mathlib.Core.Bool.{Bool, true}
+use mathlib.Core.Bool.{true}
 use mathlib.Core.List.{List}
-use mathlib.Core.Option.{none, some}
+use mathlib.Core.Option.{none}
 use Prim.Native.Nat.{ℕ}
 use borrow.Author.Tests.{eqb-true}
 use lib.ListN.{length, take}
-use Rattle.refusal.specs.Checked.{checkedOf}
-use Rattle.refusal.specs.declared.Checked.{Checked}
-use Rattle.refusal.specs.declared.Checked.the-variants.{Passed, Refused as RefusedCheck}
-use Rattle.refusal.specs.declared.Refusal.{Refusal}
-use Rattle.refusal.proofs.Laws.Chain.{told, require-passed}
+use Rattle.refusal.proofs.Laws.Chain.{require-passed}
 use Rattle.anc.specs.Words.{flag, narrow}
 use Rattle.anc.proofs.Laws.Words.{flag-words}
 use Rattle.writing.specs.Written.{refusalIn}
-use Rattle.writing.specs.declared.Written.{Written}
-use Rattle.writing.specs.declared.Written.the-variants.{Done, Refused}
-use Rattle.writing.proofs.Laws.Writing.{Answer, answer, said-in}
-use Rattle.b40.specs.Field.{isPlace, fieldOf}
+use Rattle.writing.proofs.Laws.Writing.{said-in}
+use Rattle.b40.specs.Field.{isPlace}
 use Rattle.b40.specs.Packing.{packRefusal, packedOf}
-
--- by what the checks said
-module _ (yc : Bool) (line offset : ℕ) (words old : List ℕ) (said : Checked) (e : said ≡ checkedOf (packRefusal line offset words (length old))) where
-  abbrev Packed : Written → List ℕ → Type 0
-  Packed told left = Answer (packRefusal line offset words (length old)) (fieldOf yc line offset words) old told left
-
-  pub not-packed : (why : Refusal) → said ≡ RefusedCheck why → Packed (Refused why) old
-  not-packed why s = answer (some why) _ old (told _ said (RefusedCheck why) e s)
-
-  pub all-passed : said ≡ Passed → packRefusal line offset words (length old) ≡ none
-  all-passed s = told _ said Passed e s
-
-  pub packed : said ≡ Passed → Packed Done (fieldOf yc line offset words)
-  packed s = answer none _ old (all-passed s)
 
 -- what packing accepts
 pub record Accepts (line offset : ℕ) (words : List ℕ) (room : ℕ) : Type 0 where

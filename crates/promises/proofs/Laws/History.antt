@@ -6,7 +6,7 @@ use mathlib.Core.List.{List}
 use mathlib.Core.Logic.{_⊎_, inl, inr}
 use mathlib.Core.Option.{none}
 use Prim.Native.Nat.{ℕ, _-_, _%_}
-use borrow.Author.Tests.{eqb-true, eq-eqb}
+use borrow.Author.Tests.{eqb-true, eqb-false, eq-eqb}
 use lib.Dec.{eqb}
 use lib.ListN.{length, getD}
 use Rattle.refusal.specs.declared.Checked.the-variants.{Passed}
@@ -20,12 +20,13 @@ use Rattle.steps.proofs.Laws.History.{held-few, count-few, push-latest}
 use Rattle.writing.specs.Layout.{packetWords}
 use Rattle.desk.specs.declared.Desk.{Desk}
 use Rattle.desk.specs.declared.Turn.{Turn}
-use Rattle.desk.specs.Desk.{edited, latest, undone, sendRefusal, sent, sendLeaves}
+use Rattle.desk.specs.Desk.{edited, latest, undone}
 use Rattle.desk.specs.Model.{Model, fresh, editM, undoTo, sendM}
 use Rattle.desk.proofs.Laws.Model.{Stands, Holds, open-stands, edit-stands, undo-stands, send-stands, sent-words, undo-edit, undo-index, edit-holds, undo-holds, send-holds, opening-bytes}
 use Rattle.promises.specs.Calls.{Edits, Undoes, Sends}
 use Rattle.promises.specs.History.{Turns, edits, undoes, History, opens, turns, sends}
 use Rattle.promises.proofs.Laws.Calls.{opens-is, edits-is, undoes-is, sends-is, sends-leaves}
+use Rattle.promises.proofs.Laws.Sent.{sent-as-they-stand}
 
 -- ---- a desk stands for its history
 
@@ -51,15 +52,8 @@ shown on d m h = stands on d m h .bytes
 -- into room for 262 words: exactly the words of the record that the history gives, with the number of packets sent before as their index
 pub sent-is : (on : Bool) (d : Desk) (m : Model) → History on d m → (old : List ℕ) (t : Turn) (left : List ℕ) → Sends d old t left → length old ≡ 262
     → (t .checked ≡ Passed) × (left ≡ packetWords on (m .sends % 16) (m .present))
-unfolding sent sendRefusal
-sent-is on d m h old t left S n = (
-  ap (λ (x : Turn). x .checked) (sends-is d old t left S) ∙ rw n,
-  sends-leaves d old t left S ∙ sent-words on d m (stands on d m h) old n,
-)
-
-refused-leaves : (d : Desk) (old : List ℕ) → eqb (length old) 262 ≡ false → sendLeaves d old ≡ old
-unfolding sendLeaves sendRefusal
-refused-leaves d old e = rw e
+sent-is on d m h old t left S n =
+    (sent-as-they-stand d old t left S .done n, sends-leaves d old t left S ∙ sent-words on d m (stands on d m h) old n)
 
 -- into any room: these words, or a refusal that leaves what was there
 pub never-other : (on : Bool) (d : Desk) (m : Model) → History on d m → (old : List ℕ) (t : Turn) (left : List ℕ) → Sends d old t left
@@ -68,7 +62,7 @@ never-other on d m h old t left S = by (eqb (length old) 262) refl
   where
     by : (b : Bool) → eqb (length old) 262 ≡ b → (left ≡ packetWords on (m .sends % 16) (m .present)) ⊎ (left ≡ old)
     by true e = inl (sent-is on d m h old t left S (eqb-true (length old) 262 e) .1)
-    by false e = inr (sends-leaves d old t left S ∙ refused-leaves d old e)
+    by false e = inr (sent-as-they-stand d old t left S .kept (eqb-false (length old) 262 e))
 
 -- ---- what an accepted edit stores, and keeps in its step
 

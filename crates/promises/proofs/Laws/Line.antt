@@ -6,7 +6,6 @@ use mathlib.Core.List.{List}
 use mathlib.Core.Option.{none}
 use Prim.Native.Nat.{ℕ, _+_, _%_, _≤_}
 use native.Mathlib.Omega.{arith}
-use borrow.Author.Tests.{ne-eqb}
 use lib.ListN.{length}
 use Rattle.basics.proofs.Laws.Test.{never}
 use Rattle.refusal.specs.Number.{refusalPlain}
@@ -21,7 +20,6 @@ use Rattle.anc.specs.Words.{narrow}
 use Rattle.reading.specs.Reading.{indexOf, protectedOf}
 use Rattle.desk.specs.declared.Desk.{Desk}
 use Rattle.desk.specs.declared.Turn.{Turn}
-use Rattle.desk.specs.Desk.{sendRefusal, sent as sent-turn}
 use Rattle.desk.specs.Model.{Model, sendM}
 use Rattle.desk.proofs.Laws.Model.{edit-sends, undo-sends, one-sent, none-sent}
 use Rattle.sequence.specs.declared.Kind.{Kind}
@@ -37,7 +35,8 @@ use Rattle.promises.specs.Calls.{Opens, Sends, Begins, Follows}
 use Rattle.promises.specs.History.{Turns, edits, undoes, History, opens, turns, sends}
 use Rattle.promises.specs.Line.{Delivers, Fate, unsent, waiting, dropped, delivered, Scene, opening, turned, sent, lost, heard, Line, opens, turns, sends, no-room, drops, delivers, repeats, Agrees}
 use Rattle.promises.proofs.Laws.Arrival.{Arrives, sent-long, sent-narrow, sent-sound, arrives}
-use Rattle.promises.proofs.Laws.Calls.{sends-is, begins-is, follows-is}
+use Rattle.promises.proofs.Laws.Calls.{begins-is, follows-is}
+use Rattle.promises.proofs.Laws.Sent.{sent-as-they-stand}
 use Rattle.promises.proofs.Laws.History.{stands, sent-is, history-bytes}
 
 -- ---- what is so on every line
@@ -324,8 +323,7 @@ known s (repeats {s = s₀} {before = h} {arrived = arrived} {answer = a} l w D 
 -- a send into a buffer of another length is refused, on every line
 pub no-room-refused : (s : Scene) → Line s → (old : List ℕ) (t : Turn) (left : List ℕ) → Sends (s .desk) old t left → (length old ≡ 262 → ⊥)
     → t .checked ≡ Refused (refusalPlain Room)
-unfolding sent-turn sendRefusal
-no-room-refused s l old t left S n = ap (λ (x : Turn). x .checked) (sends-is (s .desk) old t left S) ∙ rw (ne-eqb (length old) 262 n)
+no-room-refused s l old t left S n = sent-as-they-stand (s .desk) old t left S .no-room n
 
 -- the packet that waits on a line, or was delivered, has 254 protected words of ten bits each, and sound
 pub record Ordinary (words : List ℕ) : Type 0 where

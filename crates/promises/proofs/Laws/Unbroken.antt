@@ -1,5 +1,5 @@
--- A desk that was opened cannot break: whatever edits, undos and sends follow, refused ones among them, nothing in its bytes is refused. So send need not
--- check them: it sends the bytes of any desk value as they stand, and those of a desk that was opened are its record.
+-- A desk that was opened cannot break: whatever edits, undos and sends follow, refused ones among them, nothing in its bytes is refused. So send, which
+-- writes them as they stand, writes its record.
 -- Assumes nothing.
 use mathlib.Core.Path.{_≡_, sym, ap, _∙_, subst}
 use mathlib.Core.Bool.{Bool}
@@ -7,7 +7,6 @@ use mathlib.Core.List.{List}
 use Prim.Native.Nat.{ℕ, _%_}
 use native.Mathlib.Omega.{arith}
 use lib.ListN.{length}
-use borrow.Author.Tests.{ne-eqb}
 use Rattle.refusal.specs.Checked.{checkedOf}
 use Rattle.refusal.specs.declared.Checked.{Checked}
 use Rattle.refusal.specs.declared.Checked.the-variants.{Passed}
@@ -20,17 +19,13 @@ use Rattle.writing.specs.Writing.{writtenWords}
 use Rattle.writing.proofs.Laws.Writing.{done-wrote, wrote-done}
 use Rattle.desk.specs.declared.Desk.{Desk}
 use Rattle.desk.specs.declared.Turn.{Turn}
-use Rattle.desk.specs.Desk.{sendRefusal, sent, sendLeaves}
 use Rattle.desk.specs.Model.{Model}
 use Rattle.promises.specs.Calls.{Sends}
 use Rattle.promises.specs.PacketCalls.{ChecksRecord, Writes}
 use Rattle.promises.specs.History.{History}
-use Rattle.promises.specs.Unbroken.{Unbroken, SentAsTheyStand}
-use Rattle.promises.proofs.Laws.Calls.{sends-is, sends-leaves}
+use Rattle.promises.specs.Unbroken.{Unbroken}
 use Rattle.promises.proofs.Laws.PacketCalls.{checks-record-is, writes-leaves}
 use Rattle.promises.proofs.Laws.History.{stands, sent-is}
-
--- ---- a desk that was opened
 
 module _ (on : Bool) (d : Desk) (m : Model) (h : History on d m) where
   clean : CleanRecord (d .bytes)
@@ -60,14 +55,3 @@ module _ (on : Bool) (d : Desk) (m : Model) (h : History on d m) where
     sent-written a words W =
         let done = wrote-done (m .sends % 16) (d .bytes) (clean .long) (omega arith) (clean .rules) in
         sent-record ∙ sym (done-wrote on (m .sends % 16) (d .bytes) old (rw n done) .left) ∙ sym (writes-leaves on (m .sends % 16) (d .bytes) old a words W)
-
--- ---- any desk value
-
-pub sent-as-they-stand : (d : Desk) (old : List ℕ) (t : Turn) (left : List ℕ) → Sends d old t left → SentAsTheyStand d old t left
-unfolding sent sendRefusal sendLeaves
-sent-as-they-stand d old t left S = record {
-  done = λ n. ap (λ (x : Turn). x .checked) (sends-is d old t left S) ∙ rw n;
-  words = λ n. sends-leaves d old t left S ∙ rw n;
-  index = λ n. ap (λ (x : Turn). x .desk .ci) (sends-is d old t left S) ∙ rw n;
-  no-room = λ n. ap (λ (x : Turn). x .checked) (sends-is d old t left S) ∙ rw (ne-eqb (length old) 262 n);
-}

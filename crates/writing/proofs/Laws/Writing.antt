@@ -32,8 +32,8 @@ use Rattle.writing.specs.declared.Written.{Written}
 use Rattle.writing.specs.declared.Written.the-variants.{Done, Refused}
 use Rattle.anc.specs.Words.{soundWords, flag}
 use Rattle.writing.specs.Layout.{kind, headerWord, protectedWords, summedWords, packetWords}
-use Rattle.refusal.specs.Chain.{require, passed, next, leftBy}
-use Rattle.writing.specs.Writing.{givenRefusal, writeRefusal, layoutRefusal, writtenWords}
+use Rattle.refusal.specs.Chain.{next, leftBy}
+use Rattle.writing.specs.Writing.{givenRefusal, roomRefusal, writeRefusal, layoutRefusal, writtenWords}
 use Rattle.writing.specs.Written.{refusalIn, writtenBy, writtenOf, writeLeaves, layoutOf, layoutLeaves}
 use Rattle.anc.proofs.Laws.Words.{soundWords-length}
 use Rattle.writing.proofs.Laws.Layout.{length-protected}
@@ -111,8 +111,16 @@ pub record Answer (o : Option Refusal) (words old : List ℕ) (said : Written) (
   pub right : said ≡ writtenBy o
   pub kept : left ≡ leftBy o words old
 
-pub answer : {o : Option Refusal} (p : Option Refusal) (words old : List ℕ) → o ≡ p → Answer o words old (writtenBy p) (leftBy p words old)
+answer : {o : Option Refusal} (p : Option Refusal) (words old : List ℕ) → o ≡ p → Answer o words old (writtenBy p) (leftBy p words old)
 answer p words old e = record { right = ap writtenBy (sym e); kept = ap (λ (x : Option Refusal). leftBy x words old) (sym e) }
+
+-- by what the checks said
+module _ (o : Option Refusal) (words old : List ℕ) (said : Checked) (e : said ≡ checkedOf o) where
+  pub answer-refused : (why : Refusal) → said ≡ Broken why → Answer o words old (Refused why) old
+  answer-refused why s = answer (some why) words old (told o said (Broken why) e s)
+
+  pub answer-done : said ≡ Passed → Answer o words old Done words
+  answer-done s = answer none words old (told o said Passed e s)
 
 -- ---- what is given
 
@@ -140,7 +148,7 @@ given-index ci bytes n i = simp (eq-eqb (length bytes) 248 n, lt-leb ci 15 i)
 
 -- where nothing that is given is refused, only the room decides
 pub layout-by-room : (ci : ℕ) (bytes : List ℕ) → length bytes ≡ 248 → ci ≤ 15 → (room : ℕ)
-    → layoutRefusal ci bytes room ≡ require (eqb room 262) (refusalPlain Room) passed
+    → layoutRefusal ci bytes room ≡ roomRefusal room
 unfolding layoutRefusal
 layout-by-room ci bytes n i room = rw (given-passes ci bytes n i)
 
@@ -157,23 +165,12 @@ layout-passed ci bytes room e =
     let g = given-passed ci bytes (a .0) in
     record { long = g .0; index = g .1; roomy = eqb-true room 262 (require-passed (eqb room 262) _ _ (a .1) .0) }
 
-module _ (on : Bool) (ci : ℕ) (bytes old : List ℕ) (given said : Checked) (eg : given ≡ checkedOf (givenRefusal ci bytes))
-    (e : said ≡ checkedOf (next (refusalInCheck given) (require (eqb (length old) 262) (refusalPlain Room) passed))) where
-  -- what the checks answer
-  layout-told : (a : Checked) → said ≡ a → layoutRefusal ci bytes (length old) ≡ refusalInCheck a
-  unfolding layoutRefusal
-  layout-told a s =
-      let c = chained-more {test = eqb (length old) 262} (refusalPlain Room) (chained-from (givenRefusal ci bytes) eg) e refl in
-      told _ said a (chained-all c) s
-
-  pub not-laid : (why : Refusal) → said ≡ Broken why → Answer (layoutRefusal ci bytes (length old)) (packetWords on ci bytes) old (Refused why) old
-  not-laid why s = answer (some why) _ old (layout-told (Broken why) s)
-
-  pub laid-passed : said ≡ Passed → Laid ci bytes (length old)
-  laid-passed s = layout-passed ci bytes (length old) (layout-told Passed s)
-
-  pub laid-right : said ≡ Passed → Answer (layoutRefusal ci bytes (length old)) (packetWords on ci bytes) old Done (packetWords on ci bytes)
-  laid-right s = answer none _ old (layout-told Passed s)
+-- the checks of what is given and of the room are these
+pub layout-checked : (ci : ℕ) (bytes : List ℕ) (room : ℕ) (given said : Checked) → given ≡ checkedOf (givenRefusal ci bytes)
+    → said ≡ checkedOf (next (refusalInCheck given) (roomRefusal room)) → said ≡ checkedOf (layoutRefusal ci bytes room)
+unfolding layoutRefusal
+layout-checked ci bytes room given said eg e =
+    chained-all (chained-more {test = eqb room 262} (refusalPlain Room) (chained-from (givenRefusal ci bytes) eg) e refl)
 
 -- ---- their record
 
