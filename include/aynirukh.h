@@ -5,14 +5,14 @@
  *   - a pointer and the length behind it, counted in elements, are one run of memory that may be read, and written where it is not
  *     const; the pointer is aligned and is not null, even where the length is 0;
  *   - a buffer that is written overlaps no other buffer of the same call;
- *   - a bool is true or false, also the one in an AyDesk or an AyFollower.
+ *   - a bool is true or false, also the one in an AyFollower.
  * No call keeps a pointer, allocates, or waits. A desk and a follower are plain values, handed in and handed back: keep the one that
  * comes back.
  *
  * number is 0 where the call is done, else the refusal's number, and place says where (the first byte of the item for 11 to 14, the data byte
- * whose word it is for 7, the reserved byte for 15, else 0). Beside 7 stand the wrong bits of that word. A refused call leaves its buffers as they were. The desk that it
- * hands back is the one that was handed in, and the follower has one more refusal counted and is otherwise the one that was handed in; what
- * else stands beside number, place and bits is 0.
+ * whose word it is for 7, the reserved byte for 15, else 0). Beside 7 stand the wrong bits of that word. A refused call leaves its buffers as they
+ * were. The desk that it hands back is the one that was handed in, or for a refused opening the one that is opened with correction on; the follower
+ * has one more refusal counted and is otherwise the one that was handed in; what else stands beside number, place and bits is 0.
  *
  *    No.  given when
  *     1   not 262 words
@@ -38,6 +38,7 @@
  *    25   a field of other than 328 bytes
  *    26   a field's first six bits are not zero, its line is not 1 to 1,125, or its offset is over 2,199
  *    27   an index CI over 15
+ *    41   a desk that would send with correction off is asked for
  */
 #ifndef AYNIRUKH_H
 #define AYNIRUKH_H
@@ -83,7 +84,8 @@ enum {
     AY_ROOM = 23,
     AY_FIELD_LENGTH = 25,
     AY_FIELD_HEAD = 26,
-    AY_INDEX = 27
+    AY_INDEX = 27,
+    AY_OFF_RETIRED = 41
 };
 
 /* The bits of a word that are not what its b0 to b7 call for: their even parity in b8, and the inverse of that parity in b9. */
@@ -145,11 +147,10 @@ typedef struct {
     uint8_t old[AY_STEP_BYTES];
 } AyStep;
 
-/* The record's bytes, is correction on, the next packet's CI, and the first count of the steps, the oldest first; 4,795 bytes, which each call of a
- * desk takes and hands back by value. */
+/* The record's bytes, the next packet's CI, and the first count of the steps, the oldest first; 4,794 bytes, which each call of a desk takes and hands
+ * back by value. */
 typedef struct {
     uint8_t bytes[AY_RECORD_BYTES];
-    bool correction;
     uint8_t ci;
     AyStep steps[AY_HISTORY];
     uint8_t count;
@@ -232,8 +233,8 @@ AyField ay_unpack(const uint8_t *field, size_t field_len, uint16_t *out, size_t 
 
 /* ---- desk */
 
-/* A desk with the opening record, CI 0 and no history. Refuses nothing. */
-AyDesk ay_desk_open(bool correction);
+/* A desk with the opening record, CI 0 and no history. It sends with correction on: the same desk stands beside the refusal of off. Refuses 41. */
+AyTurn ay_desk_open(bool correction);
 
 /* Stores the bytes of an item, 1 to 13, one step more; of more than 32 steps the oldest goes. Item 13 is the private area, bytes 108 to 248, and may hold
  * anything. Refuses 20, 21, 11 to 14. */
@@ -242,9 +243,9 @@ AyTurn ay_desk_edit(AyDesk desk, uint8_t item, const uint8_t *bytes, size_t byte
 /* Puts back the bytes before the latest step, and takes the step away; CI stays. Refuses 22. */
 AyTurn ay_desk_undo(AyDesk desk);
 
-/* Writes the 262 words of the desk's bytes as they stand, with its CI modulo 16, and counts CI on from that, 15 to 0. The bytes of a desk that
- * ay_desk_open leads to are its record, with nothing in them that a call refuses; bytes put into an AyDesk by hand are neither checked nor cleaned.
- * Refuses 23. */
+/* Writes the 262 words of the desk's bytes as they stand, with correction on and its CI modulo 16, and counts CI on from that, 15 to 0. The bytes of a
+ * desk that ay_desk_open leads to are its record, with nothing in them that a call refuses; bytes put into an AyDesk by hand are neither checked nor
+ * cleaned. Refuses 23. */
 AyTurn ay_desk_send(AyDesk desk, uint16_t *out, size_t out_len);
 
 /* ---- follower */

@@ -62,7 +62,7 @@ static double now(void)
 /* a record that keeps every rule: the opening one with random bytes in its private area */
 static void fill(uint8_t *r)
 {
-    AyDesk desk = ay_desk_open(true);
+    AyDesk desk = ay_desk_open(true).desk;
     memcpy(r, desk.bytes, DATA);
     for (int i = 107; i < DATA; i++)
         r[i] = (uint8_t)next();
@@ -311,7 +311,7 @@ int main(void)
             to_words(damaged[k][b], damaged_words[k][b]);
         }
     }
-    desk[NO_STEPS] = ay_desk_open(true);
+    desk[NO_STEPS] = ay_desk_open(true).desk;
     desk[ALL_STEPS] = desk[NO_STEPS];
     for (int n = 0; n < AY_HISTORY; n++) {
         AyTurn turn = n % 2 ? ay_desk_edit(desk[ALL_STEPS], AY_PRIVATE_ITEM, record[n] + 107, AY_PRIVATE_BYTES)

@@ -6,8 +6,9 @@
  *     over bytes that are mostly right; and words between two codewords that are seven bytes apart, where one rule ends and the other begins;
  *   - packets: the 262 words of random records must be those of GStreamer's encoder, and must read back; and what that encoder makes of bytes with
  *     counters in the reserved area must be refused, at the first of them, and be what a desk made by hand with those bytes sends;
- *   - turns at a desk: edits of the items that may hold anything, the private bytes among them, undos and sends, beside a history of whole records kept
- *     here: the desk's bytes must be the record that it gives, and the words sent those that GStreamer's encoder makes of it;
+ *   - turns at a desk, which opens with correction on only: edits of the items that may hold anything, the private bytes among them, undos and sends,
+ *     beside a history of whole records kept here: the desk's bytes must be the record that it gives, and the words sent those that GStreamer's
+ *     encoder makes of it;
  *   - every number of 16 bits through the word check, and packets with correction off in which upper bits are wrong: what is wrong, and of which
  *     word, must be as counted here.
  * A line for each sort of marked delivery says which rule repaired how many. The last line says how many of each were equal; the exit status is 0
@@ -424,7 +425,7 @@ static void packet(long n)
 {
     uint8_t record[DATA], back[DATA];
     uint16_t words[AY_PACKET_WORDS], theirs[AY_PACKET_WORDS];
-    AyDesk desk = ay_desk_open(true);
+    AyDesk desk = ay_desk_open(true).desk;
     memcpy(record, desk.bytes, DATA);
     for (int i = 107; i < DATA; i++)
         record[i] = (uint8_t)next();
@@ -443,11 +444,11 @@ static void packet(long n)
 
 /* a foreign encoder's counters, up to three of them in the reserved area and the bytes around it: packet and bytes are refused where a byte of 44
  * to 107 is not zero, at the first of them, before a station code that is wrong too; a desk made by hand that holds them, with any CI, sends the very
- * words of the encoder */
+ * words of the encoder with correction on */
 static void counters(long n)
 {
     uint16_t words[AY_PACKET_WORDS], ours[AY_PACKET_WORDS];
-    AyDesk desk = ay_desk_open(true);
+    AyDesk desk = ay_desk_open(true).desk;
     for (long i = 0; i <= n % 3; i++)
         desk.bytes[42 + next() % 66] = (uint8_t)next();
     int on = (int)(n % 2), station = n % 5 == 0, place = 0;
@@ -459,12 +460,13 @@ static void counters(long n)
     int number = place ? AY_RESERVED_AREA : station ? AY_STATION : AY_DONE;
     if (!place && station)
         place = 1;
-    desk.correction = on;
     desk.ci = (uint8_t)next();
-    foreign(words, desk.bytes, on, desk.ci % 16, n);
+    foreign(words, desk.bytes, 1, desk.ci % 16, n);
     AyTurn sent = ay_desk_send(desk, ours, AY_PACKET_WORDS);
     if (sent.number != AY_DONE || sent.desk.ci != (desk.ci + 1) % 16 || memcmp(ours, words, sizeof words))
         fail("sending counters", n);
+    if (!on)
+        foreign(words, desk.bytes, 0, desk.ci % 16, n);
     AyPacket p = ay_read_packet(words, AY_PACKET_WORDS);
     AyFollowed f = ay_follower_follow(ay_follower_open(), words, AY_PACKET_WORDS);
     if (p.number != number || p.place != place || f.number != number || f.place != place)
@@ -481,7 +483,10 @@ static int steps, sends;
 
 static void open_desk(void)
 {
-    desk_there = ay_desk_open(true);
+    AyTurn turn = ay_desk_open(true), off = ay_desk_open(false);
+    if (turn.number != AY_DONE || off.number != AY_OFF_RETIRED || off.place || memcmp(&turn.desk, &off.desk, sizeof turn.desk))
+        fail("opening", 0);
+    desk_there = turn.desk;
     memcpy(records[0], desk_there.bytes, DATA);
 }
 
@@ -535,7 +540,7 @@ static void desk_turn(long n)
 static void unsound(long n)
 {
     uint16_t words[AY_PACKET_WORDS];
-    AyDesk desk = ay_desk_open(false);
+    AyDesk desk = ay_desk_open(true).desk;
     if (ay_write_packet(false, (uint8_t)(n % 16), desk.bytes, DATA, words, AY_PACKET_WORDS).number != AY_DONE)
         fail("writing with correction off", n);
     for (long i = 0; i <= n % 4; i++)

@@ -14,8 +14,8 @@ typedef char word_is_3_bytes[sizeof(AyWord) == 3 ? 1 : -1];
 typedef char verdict_is_3_bytes[sizeof(AyVerdict) == 3 ? 1 : -1];
 typedef char packet_is_6_bytes[sizeof(AyPacket) == 6 ? 1 : -1];
 typedef char step_is_142_bytes[sizeof(AyStep) == 142 ? 1 : -1];
-typedef char desk_is_4795_bytes[sizeof(AyDesk) == 4795 ? 1 : -1];
-typedef char turn_is_4797_bytes[sizeof(AyTurn) == 4797 ? 1 : -1];
+typedef char desk_is_4794_bytes[sizeof(AyDesk) == 4794 ? 1 : -1];
+typedef char turn_is_4796_bytes[sizeof(AyTurn) == 4796 ? 1 : -1];
 typedef char follower_is_272_bytes[sizeof(AyFollower) == 272 ? 1 : -1];
 typedef char followed_is_284_bytes[sizeof(AyFollowed) == 284 ? 1 : -1];
 
@@ -57,6 +57,18 @@ static void words(void)
     expect("checksum of three words", ay_checksum(three, 3), 0x202);
 }
 
+/* A desk is opened with correction on; asked for off, the answer is a refusal beside the same desk. */
+static AyDesk opens(void)
+{
+    AyTurn turn = ay_desk_open(true), off = ay_desk_open(false);
+    expect("number of opening", turn.number, AY_DONE);
+    expect("place of opening", turn.place, 0);
+    expect("number of opening, off", off.number, AY_OFF_RETIRED);
+    expect("place of opening, off", off.place, 0);
+    expect_bytes("the desk beside that refusal", &off.desk, &turn.desk, sizeof(AyDesk));
+    return turn.desk;
+}
+
 /* An edit, a second one that is undone, and two that are refused. */
 static AyDesk edits(AyDesk desk)
 {
@@ -80,7 +92,7 @@ static AyDesk edits(AyDesk desk)
     expect("number of sound mode 0x1B", refused.number, AY_SOUND);
     expect("place of sound mode 0x1B", refused.place, 27);
     expect_bytes("the desk after a refusal", &refused.desk, &turn.desk, sizeof(AyDesk));
-    expect("number of an undo at a fresh desk", ay_desk_undo(ay_desk_open(true)).number, AY_NOTHING_TO_UNDO);
+    expect("number of an undo at a fresh desk", ay_desk_undo(desk).number, AY_NOTHING_TO_UNDO);
     return turn.desk;
 }
 
@@ -282,7 +294,7 @@ int main(void)
 {
     uint16_t sent[AY_PACKET_WORDS], damaged[AY_PACKET_WORDS];
     words();
-    AyDesk desk = edits(ay_desk_open(true));
+    AyDesk desk = edits(opens());
     AyTurn turn = ay_desk_send(desk, sent, AY_PACKET_WORDS);
     expect("number of the send", turn.number, AY_DONE);
     expect("CI of the next packet", turn.desk.ci, 1);

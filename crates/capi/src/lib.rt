@@ -141,12 +141,13 @@ pub extern "C" fn ay_unpack(field: &[u8], out: &mut [u16]) -> AyField
 
 // ---- desk
 
-// A desk with the opening record, CI 0 and no history.
+// A desk with the opening record, CI 0 and no history; with correction on only.
 #[no_mangle]
-pub extern "C" fn ay_desk_open(correction: bool) -> Desk
-    ensures { λ r. ⌜ r ≡ opened correction ⌝ }
+pub extern "C" fn ay_desk_open(correction: bool) -> AyTurn
+    ensures { λ r. ⌜ r ≡ turnFrom (opened correction) ⌝ }
 {
-    Desk::open(correction)
+    let turn = Desk::open(correction);
+    answers::turn(turn)
 }
 
 // Checks the bytes given for an item and stores them, one step more.

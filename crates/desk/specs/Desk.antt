@@ -1,6 +1,6 @@
--- The desk: what it opens with, and what an edit, an undo and a send answer and leave, for every desk value.
+-- The desk: what it opens with, and what an opening, an edit, an undo and a send answer and leave, the last three for every desk value.
 -- Assumes nothing.
-use mathlib.Core.Bool.{Bool}
+use mathlib.Core.Bool.{Bool, true}
 use mathlib.Core.List.{List}
 use mathlib.Core.Option.{Option}
 use Prim.Native.Nat.{ℕ, _+_, _-_, _%_}
@@ -8,7 +8,7 @@ use lib.Dec.{ltb}
 use lib.ListN.{length, getD, replicate}
 use Rattle.refusal.specs.Chain.{require, passed, leftBy}
 use Rattle.refusal.specs.Number.{refusalPlain}
-use Rattle.refusal.specs.declared.Reason.the-variants.{NothingToUndo}
+use Rattle.refusal.specs.declared.Reason.the-variants.{NothingToUndo, OffRetired}
 use Rattle.refusal.specs.declared.Refusal.{Refusal}
 use Rattle.items.specs.Item.{itemRefusal, cleanOf, putItem}
 use Rattle.refusal.specs.Checked.{checkedOf}
@@ -23,7 +23,7 @@ use Rattle.desk.specs.declared.Turn.{Turn}
 abbrev pub turnBy : Option Refusal → Desk → Desk → Turn
 turnBy o new old = record { desk = leftBy o new old; checked = checkedOf o }
 
--- ---- open
+-- ---- open: 41
 
 -- what a desk opens with: eight 0x20; 0xFF in items 2, 5, 8, 10 and 11; zero elsewhere
 unfoldable pub opening : List ℕ
@@ -40,9 +40,17 @@ opening =
 unfoldable pub noStep : Step
 noStep = record { item = 0; old = replicate stepRoom 0 }
 
--- with correction on or off, CI 0 and no history
-unfoldable pub opened : Bool → Desk
-opened correction = record { bytes = opening; correction = correction; ci = 0; steps = replicate depth noStep; count = 0 }
+-- the opening record, CI 0 and no history
+unfoldable pub freshDesk : Desk
+freshDesk = record { bytes = opening; ci = 0; steps = replicate depth noStep; count = 0 }
+
+-- with correction on only
+unfoldable pub openRefusal : Bool → Option Refusal
+openRefusal correction = require correction (refusalPlain OffRetired) passed
+
+-- whichever is asked for, the desk is the same
+unfoldable pub opened : Bool → Turn
+opened correction = record { desk = freshDesk; checked = checkedOf (openRefusal correction) }
 
 -- ---- edit: 20, 21, the item's rule
 
@@ -51,7 +59,6 @@ edited d item bytes =
     turnBy (itemRefusal item bytes)
     (record {
       bytes = putItem item (cleanOf item bytes) (d .bytes);
-      correction = d .correction;
       ci = d .ci;
       steps = pushed (d .steps) (heldOf (d .count)) (stepOf item (d .bytes));
       count = countOn (heldOf (d .count));
@@ -70,7 +77,7 @@ undoRefusal d = require (ltb 0 (d .count)) (refusalPlain NothingToUndo) passed
 unfoldable pub undone : Desk → Turn
 undone d =
     turnBy (undoRefusal d)
-    (record { bytes = backFrom (latest d) (d .bytes); correction = d .correction; ci = d .ci; steps = d .steps; count = heldOf (d .count) - 1 })
+    (record { bytes = backFrom (latest d) (d .bytes); ci = d .ci; steps = d .steps; count = heldOf (d .count) - 1 })
     d
 
 -- ---- send: 23
@@ -83,9 +90,9 @@ sendRefusal room = roomRefusal room
 unfoldable pub sent : Desk → ℕ → Turn
 sent d room =
     turnBy (sendRefusal room)
-    (record { bytes = d .bytes; correction = d .correction; ci = (d .ci % 16 + 1) % 16; steps = d .steps; count = d .count })
+    (record { bytes = d .bytes; ci = (d .ci % 16 + 1) % 16; steps = d .steps; count = d .count })
     d
 
--- what is left in the lent buffer: the packet of the desk's bytes as they stand, or what was there
+-- what is left in the lent buffer: the packet of the desk's bytes as they stand, with correction on, or what was there
 unfoldable pub sendLeaves : Desk → List ℕ → List ℕ
-sendLeaves d old = leftBy (sendRefusal (length old)) (packetWords (d .correction) (d .ci % 16) (d .bytes)) old
+sendLeaves d old = leftBy (sendRefusal (length old)) (packetWords true (d .ci % 16) (d .bytes)) old

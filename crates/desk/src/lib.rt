@@ -1,5 +1,5 @@
-// The desk: the sender's record with its history. It opens, and each call takes the desk, checks what it is given, and hands the desk
-// back with the answer. A refusal hands it back as it was.
+// The desk: the sender's record with its history. Opening hands it out with an answer; each call after that takes the desk, checks what it is
+// given, and hands the desk back with the answer. A refusal hands it back as it was.
 ghost use mathlib.Core.Path.{_≡_};
 ghost use lib.ListN.{length, replicate};
 ghost use Rattle.desk.specs.Desk.{opening, opened, edited, undone, sent, sendLeaves};
@@ -7,11 +7,10 @@ use refusal::Checked;
 use refusal::Reason;
 use steps::Step;
 
-// The record's bytes, whether correction is on, the index CI of the next packet, and the steps, the oldest first, with their count.
+// The record's bytes, the index CI of the next packet, and the steps, the oldest first, with their count.
 #[repr(C)]
 pub struct Desk {
     pub bytes: [u8; 248],
-    pub correction: bool,
     pub ci: u8,
     pub steps: [Step; Desk::DEPTH],
     pub count: u8,
@@ -33,8 +32,9 @@ impl Desk {
     // How many bytes a step has room for: those of the longest item.
     pub const STEP: usize = Step::ROOM;
 
-    // A desk with the opening record, CI 0 and no history.
-    pub fn open(correction: bool) -> Self
+    // A desk with the opening record, CI 0 and no history. It sends with correction on: where off is asked for that is refused, beside the same
+    // desk.
+    pub fn open(correction: bool) -> Turn
         ensures { λ r. ⌜ r ≡ opened correction ⌝ }
     {
         let mut bytes = [0u8; 248];
@@ -43,12 +43,14 @@ impl Desk {
             item: 0,
             old: [0u8; Desk::STEP],
         };
-        Desk {
-            bytes,
-            correction,
-            ci: 0,
-            steps: [none; Desk::DEPTH],
-            count: 0,
+        Turn {
+            desk: Desk {
+                bytes,
+                ci: 0,
+                steps: [none; Desk::DEPTH],
+                count: 0,
+            },
+            checked: refusal::then(Checked::Passed, correction, Reason::OffRetired, 0),
         }
     }
 
@@ -73,7 +75,6 @@ impl Desk {
         Turn {
             desk: Desk {
                 bytes: new,
-                correction: self.correction,
                 ci: self.ci,
                 steps,
                 count: steps::count_on(count),
@@ -103,7 +104,6 @@ impl Desk {
         Turn {
             desk: Desk {
                 bytes: back,
-                correction: self.correction,
                 ci,
                 steps,
                 count: left,
@@ -112,8 +112,8 @@ impl Desk {
         }
     }
 
-    // Writes the packet of the desk's bytes as they stand with the present CI, and counts on from that, 15 to 0. They need no check: those of a
-    // desk that was opened are always a record. A refusal leaves `out` as it was.
+    // Writes the packet of the desk's bytes as they stand, with correction on and the present CI, and counts on from that, 15 to 0. They need no
+    // check: those of a desk that was opened are always a record. A refusal leaves `out` as it was.
     pub fn send(mut self, out: &mut [u16]) -> Turn
         ensures { λ r. ⌜ (r ≡ sent self (length (now (out .entry)))) × (now (out .exit) ≡ sendLeaves self (now (out .entry))) ⌝ }
     {
@@ -125,7 +125,7 @@ impl Desk {
         }
         let bytes = self.bytes;
         let ci = self.ci % 16;
-        writing::write_layout(self.correction, ci, &bytes, out);
+        writing::write_layout(true, ci, &bytes, out);
         self.ci = (ci + 1) % 16;
         Turn {
             desk: self,

@@ -1,5 +1,5 @@
--- The promises: worked values; demand 1 (Only, Refused, Places), demand 2 (Packets, Words, Reserved, Sent, History, Unbroken, Private) and demand 3 (Line, with a
--- line worked out); what is printed; and what a check is worth (Checking).
+-- The promises: worked values; demand 1 (Only, Refused, Places), demand 2 (Packets, Words, Reserved, Opening, Sent, History, Unbroken, Private) and demand 3
+-- (Line, with a line worked out); what is printed; and what a check is worth (Checking).
 pub mod Values
 pub mod Only
 pub mod Calls
@@ -11,6 +11,7 @@ pub mod Checking
 pub mod Refused
 pub mod Placed
 pub mod Places
+pub mod Opening
 pub mod Sent
 pub mod History
 pub mod Unbroken

@@ -32,13 +32,13 @@ use Rattle.lines.proofs.show.Reads as show-contract
 
 -- In each of these, `input` is what the call was given and `exit` what its parameters are once it has returned; `allowed` is the contract.
 
--- a desk is opened, with correction on or off
-pub record Opens (on : Bool) (d : Desk) : Type 0 where
+-- a desk is asked for, with correction on or off
+pub record Opens (on : Bool) (answer : Turn) : Type 0 where
   pub κs : Lfts 0
   pub input : Dens κs open-types.ps
   pub exit : AtExit (endedOf 0 open-types.ps open-types.r) κs
   pub correction : input .0 ≡ on
-  pub allowed : open-contract.Learnt κs input d exit
+  pub allowed : open-contract.Learnt κs input answer exit
 
 -- the desk is asked to store bytes as an item
 pub record Edits (d : Desk) (item : ℕ) (bytes : List ℕ) (answer : Turn) : Type 0 where

@@ -14,9 +14,9 @@ pub data Turns (d : Desk) (m : Model) : Desk → Model → Type 0 where
   edits : {item : ℕ} {bytes : List ℕ} {answer : Turn} → Edits d item bytes answer → Turns d m (answer .desk) (editM item bytes m)
   undoes : {answer : Turn} → Undoes d answer → Turns d m (answer .desk) (undoTo (m .earlier) m)
 
--- a desk opened with correction on or off, and what its history gives
-pub data History (on : Bool) : Desk → Model → Type 0 where
-  opens : {d : Desk} → Opens on d → History on d fresh
-  turns : {d : Desk} {m : Model} {d′ : Desk} {m′ : Model} → History on d m → Turns d m d′ m′ → History on d′ m′
-  sends : {d : Desk} {m : Model} {old : List ℕ} {answer : Turn} {left : List ℕ} → History on d m → Sends d old answer left
-      → History on (answer .desk) (sendM (length old) m)
+-- the desk that an opening hands back, also beside its refusal, and what its history gives
+pub data History : Desk → Model → Type 0 where
+  opens : {on : Bool} {answer : Turn} → Opens on answer → History (answer .desk) fresh
+  turns : {d : Desk} {m : Model} {d′ : Desk} {m′ : Model} → History d m → Turns d m d′ m′ → History d′ m′
+  sends : {d : Desk} {m : Model} {old : List ℕ} {answer : Turn} {left : List ℕ} → History d m → Sends d old answer left
+      → History (answer .desk) (sendM (length old) m)

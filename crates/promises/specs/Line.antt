@@ -52,7 +52,7 @@ pub record Scene : Type 0 where
   pub missed : ℕ
   pub repeated : ℕ
 
--- a desk opened with correction on and a fresh follower
+-- the desk that an opening hands back and a fresh follower
 abbrev pub opening : Desk → Follower → Scene
 opening d f =
     record {
@@ -137,7 +137,7 @@ heard s a repeats =
 -- of other than 262 words may be tried at any time, also while a packet is on the line: it is refused, and no more than the desk is handed
 -- back.
 pub data Line : Scene → Type 0 where
-  opens : {d : Desk} {f : Follower} → Opens true d → Begins f → Line (opening d f)
+  opens : {on : Bool} {answer : Turn} {f : Follower} → Opens on answer → Begins f → Line (opening (answer .desk) f)
   turns : {s : Scene} {d : Desk} {m : Model} → Line s → Turns (s .desk) (s .history) d m → Line (turned s d m)
   sends : {s : Scene} {old : List ℕ} {answer : Turn} {left : List ℕ} → Line s → (s .fate ≡ waiting → ⊥) → length old ≡ 262
       → Sends (s .desk) old answer left → Line (sent s (answer .desk) left)

@@ -6,7 +6,9 @@ use mathlib.Core.List.{List, [], _∷_, _++_}
 use Prim.Native.Nat.{ℕ, _+_, _-_, _^_}
 use lib.Dec.{eqb}
 use lib.ListN.{getD, replicate}
+use Rattle.refusal.specs.Number.{refusalAt}
 use Rattle.refusal.specs.declared.Wrong.the-variants.{B8, B9, Both}
+use Rattle.refusal.specs.declared.Reason.the-variants.{Station}
 use Rattle.anc.specs.Word.{bit, wordOf, isSound}
 use Rattle.soundness.specs.declared.Soundness.the-variants.{Unsound}
 use Rattle.soundness.specs.Check.{soundnessOf}
@@ -14,6 +16,9 @@ use Rattle.rs.specs.Codeword.{parityOf}
 use Rattle.rules.specs.Rules.{soundByte, pictureRule, timeRule}
 use Rattle.anc.specs.Words.{soundWords}
 use Rattle.writing.specs.Layout.{packetWords}
+use Rattle.reading.specs.declared.Reading.the-variants.{Accepted, Refused}
+use Rattle.reading.specs.Reading.{readRecord}
+use Rattle.reading.specs.Answer.{readingOf}
 use Rattle.desk.specs.Desk.{opening}
 use Rattle.sequence.specs.Sequence.{stepOf, kindOf, missedOf}
 
@@ -42,8 +47,12 @@ pub record Values : Type 0 where
   pub byte-0F : wordOf 0x0F ≡ 0x20F
   pub parity-of-one : soundWords (parityOf (replicate 247 0 ++ 0x01 ∷ [])) ≡ 0x23F ∷ 0x101 ∷ 0x1DA ∷ 0x120 ∷ 0x1E3 ∷ 0x126 ∷ []
   pub zero-on : sumWord (packetWords true 0 (replicate 248 0)) ≡ 0x2DC
+  -- no desk sends with correction off: these are cases of the layout, and of reading, for which zero data lack a station code
   pub zero-off : sumWord (packetWords false 0 (replicate 248 0)) ≡ 0x15C
+  pub zero-off-read : readingOf (packetWords false 0 (replicate 248 0)) ≡ Refused (refusalAt Station 1)
   pub fresh-off : sumWord (packetWords false 0 opening) ≡ 0x149
+  pub fresh-off-read : readingOf (packetWords false 0 opening) ≡ Accepted (record { correction = false; ci = 0; fixed = 0 })
+  pub fresh-off-record : readRecord (packetWords false 0 opening) ≡ opening
   pub sound-92 : soundByte 0x92 ≡ true
   pub sound-89 : soundByte 0x89 ≡ false
   pub sound-32 : soundByte 0x32 ≡ false

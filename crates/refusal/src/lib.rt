@@ -36,6 +36,7 @@ pub enum Reason {
     FieldLength,
     FieldHead,
     Index,
+    OffRetired,
 }
 
 // A refusal: its reason, which has the number, and its place, 0 where the list gives none.
@@ -71,6 +72,7 @@ pub fn number(reason: Reason) -> u8
         Reason::FieldLength => 25,
         Reason::FieldHead => 26,
         Reason::Index => 27,
+        Reason::OffRetired => 41,
     }
 }
 

@@ -18,6 +18,12 @@ pub(crate) struct Day {
     pub agreed: u32,
 }
 
+// The desk that an opening hands back.
+pub(crate) fn fresh() -> Desk {
+    let opening = Desk::open(true);
+    opening.desk
+}
+
 // The next of a run of numbers that look like chance.
 fn next(x: u64) -> u64 {
     let a = x ^ (x << 13);
@@ -132,7 +138,7 @@ fn turned(desk: Desk, chance: u64) -> Desk {
 }
 
 // One if the two agree, with these true counts.
-fn agrees(desk: Desk, follower: Follower, missed: u32, repeated: u32) -> u32 {
+pub(crate) fn agrees(desk: Desk, follower: Follower, missed: u32, repeated: u32) -> u32 {
     let bytes = desk.bytes;
     let rec = follower.rec;
     if check::same(&bytes, &rec)
@@ -219,7 +225,7 @@ fn tick(day: Day) -> Day {
 // Two thousand packets.
 pub(crate) fn run() -> Day {
     let mut day = Day {
-        desk: Desk::open(true),
+        desk: fresh(),
         follower: Follower::open(),
         chance: 20261115,
         gap: 0,

@@ -1,6 +1,8 @@
-// Cases that are run: three changed words, six that confess, the end of the history, and the private bytes edited and undone.
+// Cases that are run: three changed words, six that confess, correction off at opening and at a follower, the end of the history, and the private
+// bytes edited and undone.
 use crate::day;
 use desk::Desk;
+use follower::Follower;
 
 // Changes three words; none of the new ones is sound.
 fn change_three(words: &mut [u16], a: usize, b: usize, c: usize) {
@@ -12,7 +14,7 @@ fn change_three(words: &mut [u16], a: usize, b: usize, c: usize) {
 // How many words are fixed in a fresh desk's packet with three of its words changed; 255 where it is refused.
 pub(crate) fn fixed_with(a: usize, b: usize, c: usize) -> u64 {
     let mut words = [0u16; 262];
-    let desk = Desk::open(true);
+    let desk = day::fresh();
     desk.send(&mut words);
     change_three(&mut words, a, b, c);
     fixed(&words)
@@ -21,7 +23,7 @@ pub(crate) fn fixed_with(a: usize, b: usize, c: usize) -> u64 {
 // The same with six of them, the first three protected ones and the last three.
 pub(crate) fn fixed_at_both_ends() -> u64 {
     let mut words = [0u16; 262];
-    let desk = Desk::open(true);
+    let desk = day::fresh();
     desk.send(&mut words);
     change_three(&mut words, 7, 8, 9);
     change_three(&mut words, 258, 259, 260);
@@ -45,7 +47,7 @@ pub(crate) struct Undone {
 
 // A desk after that many edits of the sound mode.
 fn edited(edits: usize) -> Desk {
-    let mut desk = Desk::open(true);
+    let mut desk = day::fresh();
     let mut n: usize = 0;
     while n < edits {
         let mode = [(n % 27) as u8];
@@ -75,11 +77,31 @@ pub(crate) fn undos_after(edits: usize) -> Undone {
     Undone { count, number: 0 }
 }
 
+// The number of the refusal of an opening with correction off; 255 where the record beside it is not that of a fresh desk.
+pub(crate) fn opened_off() -> u64 {
+    let told = answers::turn(Desk::open(false));
+    if same_bytes(told.desk, day::fresh()) {
+        return told.number as u64;
+    }
+    255
+}
+
+// One if a follower takes the packet of the opening record with correction off, and then holds that record.
+pub(crate) fn off_followed() -> u64 {
+    let desk = day::fresh();
+    let bytes = desk.bytes;
+    let mut words = [0u16; 262];
+    writing::write_packet(false, 0, &bytes, &mut words);
+    let follower = Follower::open();
+    let followed = follower.follow(&words);
+    day::agrees(desk, followed.follower, 0, 0) as u64
+}
+
 // The number of the refusal of an edit at a fresh desk with the first `count` of 141 bytes; 0 where there is none, 255 where there are not so many bytes.
 pub(crate) fn edit_with(item: u8, count: usize) -> u64 {
     let mut bytes = [0u8; 141];
     day::fill(&mut bytes, 20261116);
-    let desk = Desk::open(true);
+    let desk = day::fresh();
     if 141 < count {
         return 255;
     }
@@ -97,7 +119,7 @@ fn with_private(desk: Desk, chance: u64) -> Desk {
 
 // One if two undos after two edits of the private bytes give back, one after the other, the records that were there before.
 pub(crate) fn private_undone() -> u64 {
-    let fresh = Desk::open(true);
+    let fresh = day::fresh();
     let once = with_private(fresh, 1);
     let twice = with_private(once, 2);
     let first = twice.undo();

@@ -36,7 +36,7 @@ fn sum(words: &mut [u16]) {
 // A fresh desk's packet with four counters in it, 0, 7, 0 and 9, from this byte on, counted from 0. Its parity and its checksum are right.
 fn with_counters(first: u8) -> [u16; 262] {
     let mut words = [0u16; 262];
-    let desk = Desk::open(true);
+    let desk = day::fresh();
     desk.send(&mut words);
     let mut block = [0u8; 254];
     anc::low_bytes(&words[7..261], &mut block);
@@ -81,7 +81,7 @@ fn refused(desk: Desk, follower: Follower) -> u64 {
 // The same of a fresh desk and a follower that heard its packet and then the one with counters.
 pub(crate) fn followed_with(first: u8) -> u64 {
     let mut words = [0u16; 262];
-    let desk = Desk::open(true);
+    let desk = day::fresh();
     desk.send(&mut words);
     let fresh = Follower::open();
     let heard = fresh.follow(&words);
@@ -92,11 +92,10 @@ pub(crate) fn followed_with(first: u8) -> u64 {
 
 // A fresh desk with these bytes in place of its own, and this CI: no opening leads to it.
 fn by_hand(bytes: [u8; 248], ci: u8) -> Desk {
-    let fresh = Desk::open(true);
+    let fresh = day::fresh();
     let steps = fresh.steps;
     Desk {
         bytes,
-        correction: true,
         ci,
         steps,
         count: 0,

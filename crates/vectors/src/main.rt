@@ -1,6 +1,7 @@
 // Runs what is compared and not proved: parities, repairs and checks that another program worked out, the same repairs by the plain repairer,
-// three changed words at both ends of the codeword and six that confess, the end of the history, the private bytes edited and undone, a foreign
-// encoder's counters, read and sent, and a day of a desk and a follower over a damaged line. Prints what was compared.
+// three changed words at both ends of the codeword and six that confess, correction off at opening and at a follower, the end of the history, the
+// private bytes edited and undone, a foreign encoder's counters, read and sent, and a day of a desk and a follower over a damaged line. Prints
+// what was compared.
 mod day;
 mod desk_cases;
 mod foreign;
@@ -38,6 +39,14 @@ fn main() {
     line(
         b"fixed, six of these that confess: ",
         desk_cases::fixed_at_both_ends(),
+    );
+    line(
+        b"opening with correction off, refused: ",
+        desk_cases::opened_off(),
+    );
+    line(
+        b"the opening record with correction off is read and held: ",
+        desk_cases::off_followed(),
     );
     let undone = desk_cases::undos_after(33);
     line(b"undos after 33 edits: ", undone.count);

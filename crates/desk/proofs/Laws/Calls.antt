@@ -1,7 +1,7 @@
 -- What each call of a desk answers, by what the calls that it makes answered.
 -- Assumes nothing.
 use mathlib.Core.Path.{_≡_, refl, sym, ap, _∙_}
-use mathlib.Core.Bool.{Bool}
+use mathlib.Core.Bool.{true}
 use mathlib.Core.List.{List}
 use mathlib.Core.Option.{Option, none, some}
 use Prim.Native.Nat.{ℕ, _%_, _<_}
@@ -31,8 +31,8 @@ use Rattle.desk.specs.declared.Turn.{Turn}
 use Rattle.desk.specs.Desk.{edited, undoRefusal, undone, sendRefusal, sent, sendLeaves}
 
 -- a desk with other bytes, CI, steps and count
-abbrev desk : List ℕ → Bool → ℕ → List Step → ℕ → Desk
-desk b on ci steps count = record { bytes = b; correction = on; ci = ci; steps = steps; count = count }
+abbrev desk : List ℕ → ℕ → List Step → ℕ → Desk
+desk b ci steps count = record { bytes = b; ci = ci; steps = steps; count = count }
 
 -- the answer with a desk and a check
 abbrev turn : Desk → Checked → Turn
@@ -60,7 +60,7 @@ module _ (d : Desk) (item : ℕ) (bytes : List ℕ) (said : Checked) (n : length
 
     pub edit-done : (new : List ℕ) (k c : ℕ) (kept : Kept) (steps : List Step) → new ≡ storeLeaves item bytes (d .bytes) → k ≡ heldOf (d .count)
         → kept ≡ keptOf item (d .bytes) → steps ≡ pushed (d .steps) k (kept .step) → c ≡ countOn k
-        → turn (desk new (d .correction) (d .ci) steps c) said ≡ edited d item bytes
+        → turn (desk new (d .ci) steps c) said ≡ edited d item bytes
     unfolding edited keptOf
     edit-done new k c kept steps en ek es et ec =
         rw (ec, et, es, ek, en, store-left, told (itemRefusal item bytes) said Passed item-said s, s)
@@ -87,7 +87,7 @@ module _ (d : Desk) (old : List ℕ) where
 
   -- where there is room, the packet of the bytes is written
   pub send-writes : length (d .bytes) ≡ 248 → length old ≡ 262
-      → layoutLeaves (d .correction) (d .ci % 16) (d .bytes) old ≡ packetWords (d .correction) (d .ci % 16) (d .bytes)
+      → layoutLeaves true (d .ci % 16) (d .bytes) old ≡ packetWords true (d .ci % 16) (d .bytes)
   unfolding layoutLeaves
   send-writes n m =
       let c : d .ci % 16 < 16 = mod-lt (d .ci) (omega arith) in

@@ -29,7 +29,7 @@ use Rattle.steps.specs.declared.Step.{Step}
 use Rattle.steps.specs.Steps.{depth, heldOf, pushed, countOn, blank, stepOf, backFrom}
 use Rattle.steps.proofs.Laws.History.{newest, unwound, unwound-step, unwound-take, held-few, pushed-length, push-newest, count-more, count-few, back-from-step, pop}
 use Rattle.desk.specs.declared.Desk.{Desk}
-use Rattle.desk.specs.Desk.{opening, noStep, opened, edited, undoRefusal, undone, sendRefusal, sent, sendLeaves}
+use Rattle.desk.specs.Desk.{opening, noStep, freshDesk, opened, edited, undoRefusal, undone, sendRefusal, sent, sendLeaves}
 use Rattle.desk.specs.Model.{Model, fresh, editM, undoTo, sendM}
 
 -- ---- what is so of the present record and of each earlier one
@@ -75,9 +75,8 @@ module _ (P : List ℕ → Type 0) where
 
 -- ---- a desk that stands for a history
 
-pub record Stands (on : Bool) (d : Desk) (m : Model) : Type 0 where
+pub record Stands (d : Desk) (m : Model) : Type 0 where
   pub bytes : d .bytes ≡ m .present
-  pub correction : d .correction ≡ on
   pub ci : d .ci ≡ m .sends % 16
   pub room : length (d .steps) ≡ 32
   pub count : d .count ≡ length (m .earlier)
@@ -90,12 +89,12 @@ opening-clean : CleanRecord opening
 unfolding opening items part laidOut recordOf reservedArea firstFrom reservedRefusal broken contentRefusal rowOf put putIn putItem stationRule stationByte timeRule timeByte decimal all pictureRule pictureClean soundRule soundByte
 opening-clean = record { long = refl; rules = refl; own = refl }
 
-pub open-stands : (on : Bool) → Stands on (opened on) fresh
-unfolding opened fresh newest unwound noStep
-open-stands on =
+-- the desk of an opening stands for the fresh history, also where the opening is refused
+pub open-stands : (correction : Bool) → Stands (opened correction .desk) fresh
+unfolding opened freshDesk fresh newest unwound noStep
+open-stands correction =
     record {
       bytes = refl;
-      correction = refl;
       ci = refl;
       room = refl;
       count = refl;
@@ -111,7 +110,7 @@ both-by P (some why) d′ d m′ m f p = p
 
 -- ---- an edit
 
-module _ (on : Bool) (d : Desk) (m : Model) (s : Stands on d m) where
+module _ (d : Desk) (m : Model) (s : Stands d m) where
   stands-long : length (d .bytes) ≡ 248
   stands-long = ap length (s .bytes) ∙ s .clean .present .long
 
@@ -130,9 +129,8 @@ module _ (on : Bool) (d : Desk) (m : Model) (s : Stands on d m) where
         rw (held-few (d .count) (s .few), pushes, unwound-take 32 (stepOf item (d .bytes) ∷ newest (d .steps) (d .count)) (putItem item new (d .bytes)))
         (ap (take 32) whole)
 
-    edit-accepted : itemRefusal item bytes ≡ none → Stands on (record {
+    edit-accepted : itemRefusal item bytes ≡ none → Stands (record {
       bytes = putItem item new (d .bytes);
-      correction = d .correction;
       ci = d .ci;
       steps = pushed (d .steps) (heldOf (d .count)) (stepOf item (d .bytes));
       count = countOn (heldOf (d .count));
@@ -140,7 +138,6 @@ module _ (on : Bool) (d : Desk) (m : Model) (s : Stands on d m) where
     edit-accepted a =
         record {
           bytes = ap (putItem item new) (s .bytes);
-          correction = s .correction;
           ci = s .ci;
           room = pushed-length (d .steps) (heldOf (d .count)) (stepOf item (d .bytes)) (s .room);
           count = rw (held-few (d .count) (s .few)) (count-more (d .count) (s .few) (m .earlier) (m .present) (s .count));
@@ -152,9 +149,9 @@ module _ (on : Bool) (d : Desk) (m : Model) (s : Stands on d m) where
           };
         }
 
-    pub edit-stands : Stands on (edited d item bytes .desk) (editM item bytes m)
+    pub edit-stands : Stands (edited d item bytes .desk) (editM item bytes m)
     unfolding edited editM
-    edit-stands = both-by (Stands on) (itemRefusal item bytes) _ d _ m edit-accepted s
+    edit-stands = both-by Stands (itemRefusal item bytes) _ d _ m edit-accepted s
 
   -- ---- an undo
 
@@ -176,13 +173,12 @@ module _ (on : Bool) (d : Desk) (m : Model) (s : Stands on d m) where
         ∙ ap (λ (l : List Step). unwound l (d .bytes)) (sym (pop (d .steps) (d .count) some-step few))
         ∙ s .history ∙ e
 
-    undo-accepted : Stands on (record { bytes = backFrom (getD (d .steps) (d .count - 1) blank) (d .bytes); correction = d .correction; ci = d .ci; steps = d .steps; count = d .count - 1 })
+    undo-accepted : Stands (record { bytes = backFrom (getD (d .steps) (d .count - 1) blank) (d .bytes); ci = d .ci; steps = d .steps; count = d .count - 1 })
         (record { present = r; earlier = rs; sends = m .sends })
     undo-accepted =
         let c : All CleanRecord (r ∷ rs) = subst (All CleanRecord) e (s .clean .earlier) in
         record {
           bytes = ap (λ (l : List (List ℕ)). getD l 0 []) undo-history;
-          correction = s .correction;
           ci = s .ci;
           room = s .room;
           count = omega (arith, counted);
@@ -191,30 +187,29 @@ module _ (on : Bool) (d : Desk) (m : Model) (s : Stands on d m) where
           clean = record { present = c .0; earlier = c .1 };
         }
 
-    undo-some : Stands on (undone d .desk) (record { present = r; earlier = rs; sends = m .sends })
+    undo-some : Stands (undone d .desk) (record { present = r; earlier = rs; sends = m .sends })
     unfolding undone undoRefusal
     undo-some = simp (lt-ltb 0 (d .count) some-step) (rw (held-few (d .count) (s .few)) undo-accepted)
 
-  pub undo-stands : Stands on (undone d .desk) (undoTo (m .earlier) m)
+  pub undo-stands : Stands (undone d .desk) (undoTo (m .earlier) m)
   undo-stands = by (m .earlier) refl
     where
-      by : (rs : List (List ℕ)) → m .earlier ≡ rs → Stands on (undone d .desk) (undoTo rs m)
-      by [] e = subst (λ (x : Desk). Stands on x m) (sym (undo-empty e)) s
+      by : (rs : List (List ℕ)) → m .earlier ≡ rs → Stands (undone d .desk) (undoTo rs m)
+      by [] e = subst (λ (x : Desk). Stands x m) (sym (undo-empty e)) s
       by (r ∷ rs) e = undo-some r rs e
 
   -- ---- a send
 
-  pub send-stands : (room : ℕ) → Stands on (sent d room .desk) (sendM room m)
+  pub send-stands : (room : ℕ) → Stands (sent d room .desk) (sendM room m)
   unfolding sent sendRefusal sendM
   send-stands room = by (eqb room 262)
     where
-      by : (t : Bool) → Stands on
-          (leftBy (require t (refusalPlain Room) passed) (record { bytes = d .bytes; correction = d .correction; ci = (d .ci % 16 + 1) % 16; steps = d .steps; count = d .count }) d)
+      by : (t : Bool) → Stands
+          (leftBy (require t (refusalPlain Room) passed) (record { bytes = d .bytes; ci = (d .ci % 16 + 1) % 16; steps = d .steps; count = d .count }) d)
           (cond t (record { present = m .present; earlier = m .earlier; sends = m .sends + 1 }) m)
       by true =
           record {
             bytes = s .bytes;
-            correction = s .correction;
             ci = omega (arith, s .ci);
             room = s .room;
             count = s .count;
@@ -225,21 +220,21 @@ module _ (on : Bool) (d : Desk) (m : Model) (s : Stands on d m) where
       by false = s
 
   -- the words sent are those of the present record, with the number of sends modulo 16 as their index
-  pub sent-words : (old : List ℕ) → length old ≡ 262 → sendLeaves d old ≡ packetWords on (m .sends % 16) (m .present)
+  pub sent-words : (old : List ℕ) → length old ≡ 262 → sendLeaves d old ≡ packetWords true (m .sends % 16) (m .present)
   unfolding sendLeaves sendRefusal
   sent-words old n =
       let c : d .ci % 16 ≡ m .sends % 16 = omega (arith, s .ci) in
-      rw n (λ i. packetWords (s .correction i) (c i) (s .bytes i))
+      rw n (λ i. packetWords true (c i) (s .bytes i))
 
 -- ---- undo after an edit, and the index
 
 -- an undo after an accepted edit gives back the bytes before it
-pub undo-edit : (on : Bool) (d : Desk) (m : Model) → Stands on d m → (item : ℕ) (bytes : List ℕ) → itemRefusal item bytes ≡ none
+pub undo-edit : (d : Desk) (m : Model) → Stands d m → (item : ℕ) (bytes : List ℕ) → itemRefusal item bytes ≡ none
     → undone (edited d item bytes .desk) .desk .bytes ≡ d .bytes
 unfolding editM
-undo-edit on d m s item bytes a =
+undo-edit d m s item bytes a =
     let e : editM item bytes m .earlier ≡ m .present ∷ take 31 (m .earlier) = rw a in
-    undo-some on (edited d item bytes .desk) (editM item bytes m) (edit-stands on d m s item bytes) (m .present) (take 31 (m .earlier)) e .bytes ∙ sym (s .bytes)
+    undo-some (edited d item bytes .desk) (editM item bytes m) (edit-stands d m s item bytes) (m .present) (take 31 (m .earlier)) e .bytes ∙ sym (s .bytes)
 
 -- an undo never moves the index, whatever the desk
 pub undo-index : (d : Desk) → undone d .desk .ci ≡ d .ci

@@ -15,8 +15,8 @@ use Rattle.lines.specs.declared.page.Page.{Page}
 use Rattle.lines.specs.Shown.{shown}
 use Rattle.promises.specs.Calls.{Opens, Edits, Undoes, Sends, Begins, Follows, Shows}
 
-pub opens-is : (on : Bool) (d : Desk) → Opens on d → d ≡ opened on
-opens-is on d O = O .allowed ∙ ap opened (O .correction)
+pub opens-is : (on : Bool) (t : Turn) → Opens on t → t ≡ opened on
+opens-is on t O = O .allowed ∙ ap opened (O .correction)
 
 pub edits-is : (d : Desk) (item : ℕ) (bytes : List ℕ) (t : Turn) → Edits d item bytes t → t ≡ edited d item bytes
 edits-is d item bytes t E = E .allowed ∙ (λ i. edited (E .own i) (E .number i) (E .lent i))

@@ -30,44 +30,44 @@ use Rattle.promises.proofs.Laws.Sent.{sent-as-they-stand}
 
 -- ---- a desk stands for its history
 
-turn-stands : (on : Bool) (d : Desk) (m : Model) (d′ : Desk) (m′ : Model) → Stands on d m → Turns d m d′ m′ → Stands on d′ m′
-turn-stands on d m d′ m′ s (edits {item = item} {bytes = bytes} {answer = t} E) =
-    subst (λ (x : Turn). Stands on (x .desk) (editM item bytes m)) (sym (edits-is d item bytes t E)) (edit-stands on d m s item bytes)
-turn-stands on d m d′ m′ s (undoes {answer = t} U) =
-    subst (λ (x : Turn). Stands on (x .desk) (undoTo (m .earlier) m)) (sym (undoes-is d t U)) (undo-stands on d m s)
+turn-stands : (d : Desk) (m : Model) (d′ : Desk) (m′ : Model) → Stands d m → Turns d m d′ m′ → Stands d′ m′
+turn-stands d m d′ m′ s (edits {item = item} {bytes = bytes} {answer = t} E) =
+    subst (λ (x : Turn). Stands (x .desk) (editM item bytes m)) (sym (edits-is d item bytes t E)) (edit-stands d m s item bytes)
+turn-stands d m d′ m′ s (undoes {answer = t} U) =
+    subst (λ (x : Turn). Stands (x .desk) (undoTo (m .earlier) m)) (sym (undoes-is d t U)) (undo-stands d m s)
 
-pub stands : (on : Bool) (d : Desk) (m : Model) → History on d m → Stands on d m
-stands on d m (opens {d = d₀} O) = subst (λ (x : Desk). Stands on x fresh) (sym (opens-is on d₀ O)) (open-stands on)
-stands on d m (turns {d = d₀} {m = m₀} h t) = turn-stands on d₀ m₀ d m (stands on d₀ m₀ h) t
-stands on d m (sends {d = d₀} {m = m₀} {old = old} {answer = t} {left = left} h S) =
-    subst (λ (x : Turn). Stands on (x .desk) (sendM (length old) m₀)) (sym (sends-is d₀ old t left S)) (send-stands on d₀ m₀ (stands on d₀ m₀ h) (length old))
+pub stands : (d : Desk) (m : Model) → History d m → Stands d m
+stands d m (opens {on = on} {answer = t} O) = subst (λ (x : Turn). Stands (x .desk) fresh) (sym (opens-is on t O)) (open-stands on)
+stands d m (turns {d = d₀} {m = m₀} h t) = turn-stands d₀ m₀ d m (stands d₀ m₀ h) t
+stands d m (sends {d = d₀} {m = m₀} {old = old} {answer = t} {left = left} h S) =
+    subst (λ (x : Turn). Stands (x .desk) (sendM (length old) m₀)) (sym (sends-is d₀ old t left S)) (send-stands d₀ m₀ (stands d₀ m₀ h) (length old))
 
 -- ---- what is shown
 
-pub shown : (on : Bool) (d : Desk) (m : Model) → History on d m → d .bytes ≡ m .present
-shown on d m h = stands on d m h .bytes
+pub shown : (d : Desk) (m : Model) → History d m → d .bytes ≡ m .present
+shown d m h = stands d m h .bytes
 
 -- ---- what is sent
 
 -- into room for 262 words: exactly the words of the record that the history gives, with the number of packets sent before as their index
-pub sent-is : (on : Bool) (d : Desk) (m : Model) → History on d m → (old : List ℕ) (t : Turn) (left : List ℕ) → Sends d old t left → length old ≡ 262
-    → (t .checked ≡ Passed) × (left ≡ packetWords on (m .sends % 16) (m .present))
-sent-is on d m h old t left S n =
-    (sent-as-they-stand d old t left S .done n, sends-leaves d old t left S ∙ sent-words on d m (stands on d m h) old n)
+pub sent-is : (d : Desk) (m : Model) → History d m → (old : List ℕ) (t : Turn) (left : List ℕ) → Sends d old t left → length old ≡ 262
+    → (t .checked ≡ Passed) × (left ≡ packetWords true (m .sends % 16) (m .present))
+sent-is d m h old t left S n =
+    (sent-as-they-stand d old t left S .done n, sends-leaves d old t left S ∙ sent-words d m (stands d m h) old n)
 
 -- into any room: these words, or a refusal that leaves what was there
-pub never-other : (on : Bool) (d : Desk) (m : Model) → History on d m → (old : List ℕ) (t : Turn) (left : List ℕ) → Sends d old t left
-    → (left ≡ packetWords on (m .sends % 16) (m .present)) ⊎ (left ≡ old)
-never-other on d m h old t left S = by (eqb (length old) 262) refl
+pub never-other : (d : Desk) (m : Model) → History d m → (old : List ℕ) (t : Turn) (left : List ℕ) → Sends d old t left
+    → (left ≡ packetWords true (m .sends % 16) (m .present)) ⊎ (left ≡ old)
+never-other d m h old t left S = by (eqb (length old) 262) refl
   where
-    by : (b : Bool) → eqb (length old) 262 ≡ b → (left ≡ packetWords on (m .sends % 16) (m .present)) ⊎ (left ≡ old)
-    by true e = inl (sent-is on d m h old t left S (eqb-true (length old) 262 e) .1)
+    by : (b : Bool) → eqb (length old) 262 ≡ b → (left ≡ packetWords true (m .sends % 16) (m .present)) ⊎ (left ≡ old)
+    by true e = inl (sent-is d m h old t left S (eqb-true (length old) 262 e) .1)
     by false e = inr (sent-as-they-stand d old t left S .kept (eqb-false (length old) 262 e))
 
 -- ---- what an accepted edit stores, and keeps in its step
 
-pub history-long : (on : Bool) (d : Desk) (m : Model) → History on d m → length (d .bytes) ≡ 248
-history-long on d m h = let s = stands on d m h in ap length (s .bytes) ∙ s .clean .present .long
+pub history-long : (d : Desk) (m : Model) → History d m → length (d .bytes) ≡ 248
+history-long d m h = let s = stands d m h in ap length (s .bytes) ∙ s .clean .present .long
 
 module _ (d : Desk) (item : ℕ) (bytes : List ℕ) (t : Turn) (E : Edits d item bytes t) (a : itemRefusal item bytes ≡ none) where
   pub edit-done : t .checked ≡ Passed
@@ -82,12 +82,12 @@ module _ (d : Desk) (item : ℕ) (bytes : List ℕ) (t : Turn) (E : Edits d item
   unfolding edited
   edit-latest = ap (λ (x : Turn). latest (x .desk)) (edits-is d item bytes t E) ∙ rw a
 
-module _ (on : Bool) (d : Desk) (m : Model) (h : History on d m) (item : ℕ) (bytes : List ℕ) (t : Turn) (E : Edits d item bytes t) (a : itemRefusal item bytes ≡ none) where
+module _ (d : Desk) (m : Model) (h : History d m) (item : ℕ) (bytes : List ℕ) (t : Turn) (E : Edits d item bytes t) (a : itemRefusal item bytes ≡ none) where
   -- the item's bytes are those that were given, with unread places zero
   pub edit-stores : itemLent item (t .desk .bytes) ≡ cleanOf item bytes
   unfolding itemLent
   edit-stores =
-      let n = history-long on d m h in
+      let n = history-long d m h in
       let long : length (t .desk .bytes) ≡ 248 = ap length (edit-bytes d item bytes t E a) ∙ put-item-length item (d .bytes) n (cleanOf item bytes) (clean-long item bytes a) in
       rw (eq-eqb (length (t .desk .bytes)) 248 long)
       (ap (itemPart item) (edit-bytes d item bytes t E a) ∙ put-item-part item (d .bytes) n (cleanOf item bytes) (clean-long item bytes a))
@@ -95,14 +95,14 @@ module _ (on : Bool) (d : Desk) (m : Model) (h : History on d m) (item : ℕ) (b
   -- and the latest step holds those that were there
   pub edit-keeps : latest (t .desk) ≡ stepOf item (d .bytes)
   edit-keeps =
-      let s = stands on d m h in
+      let s = stands d m h in
       edit-latest d item bytes t E a
       ∙ rw (held-few (d .count) (s .few), held-few (countOn (d .count)) (count-few (d .count) (s .few)))
       (push-latest (d .steps) (d .count) (stepOf item (d .bytes)) (s .room) (s .few))
 
 -- ---- what undo gives back
 
-module _ (on : Bool) (d : Desk) (m : Model) (h : History on d m) (item : ℕ) (bytes : List ℕ) (t u : Turn) (E : Edits d item bytes t) (done : t .checked ≡ Passed)
+module _ (d : Desk) (m : Model) (h : History d m) (item : ℕ) (bytes : List ℕ) (t u : Turn) (E : Edits d item bytes t) (done : t .checked ≡ Passed)
     (U : Undoes (t .desk) u) where
   passed-edit : itemRefusal item bytes ≡ none
   unfolding edited
@@ -112,7 +112,7 @@ module _ (on : Bool) (d : Desk) (m : Model) (h : History on d m) (item : ℕ) (b
   pub undo-gives-back : u .desk .bytes ≡ d .bytes
   undo-gives-back =
       ap (λ (x : Turn). x .desk .bytes) (undoes-is (t .desk) u U) ∙ ap (λ (x : Turn). undone (x .desk) .desk .bytes) (edits-is d item bytes t E)
-      ∙ undo-edit on d m (stands on d m h) item bytes passed-edit
+      ∙ undo-edit d m (stands d m h) item bytes passed-edit
 
 -- and the index stays where it is, whatever the desk
 pub undo-keeps-index : (d : Desk) (t : Turn) → Undoes d t → t .desk .ci ≡ d .ci
@@ -128,7 +128,7 @@ turn-bytes : (d : Desk) (m : Model) (d′ : Desk) (m′ : Model) → Holds Bytes
 turn-bytes d m d′ m′ b (edits {item = item} {bytes = bytes} E) = edit-holds Bytes item bytes m (λ a p. store-bytes item bytes (m .present) (E .are-bytes) p) b
 turn-bytes d m d′ m′ b (undoes U) = undo-holds Bytes m b
 
-pub history-bytes : (on : Bool) (d : Desk) (m : Model) → History on d m → Holds Bytes m
-history-bytes on d m (opens O) = open-bytes
-history-bytes on d m (turns {d = d₀} {m = m₀} h t) = turn-bytes d₀ m₀ d m (history-bytes on d₀ m₀ h) t
-history-bytes on d m (sends {d = d₀} {m = m₀} {old = old} h S) = send-holds Bytes (length old) m₀ (history-bytes on d₀ m₀ h)
+pub history-bytes : (d : Desk) (m : Model) → History d m → Holds Bytes m
+history-bytes d m (opens O) = open-bytes
+history-bytes d m (turns {d = d₀} {m = m₀} h t) = turn-bytes d₀ m₀ d m (history-bytes d₀ m₀ h) t
+history-bytes d m (sends {d = d₀} {m = m₀} {old = old} h S) = send-holds Bytes (length old) m₀ (history-bytes d₀ m₀ h)

@@ -89,15 +89,15 @@ record After (s : Scene) : Type 0 where
   repeated : s .follower .repeated ≡ counted 0 (s .repeated)
 
 record Known (s : Scene) : Type 0 where
-  desk : History true (s .desk) (s .history)
+  desk : History (s .desk) (s .history)
   fared : Fared s (s .fate)
   before : s .begun ≡ false → Before s
   after : s .begun ≡ true → After s
 
 -- ---- opening
 
-open-known : (d : Desk) (f : Follower) → Opens true d → Begins f → Known (opening d f)
-open-known d f O B =
+open-known : {on : Bool} (t : Turn) (f : Follower) → Opens on t → Begins f → Known (opening (t .desk) f)
+open-known t f O B =
     record {
       desk = opens O;
       fared = tt;
@@ -113,10 +113,10 @@ turn-sends d m d′ m′ (edits {item = item} {bytes = bytes} E) = edit-sends it
 turn-sends d m d′ m′ (undoes U) = undo-sends (m .earlier) m
 
 -- nor does a send into room for another number of words
-no-room-history : (d : Desk) (m : Model) (old : List ℕ) (t : Turn) (left : List ℕ) → History true d m → (length old ≡ 262 → ⊥) → Sends d old t left → History true (t .desk) m
-no-room-history d m old t left H n S = subst (History true (t .desk)) (none-sent (length old) m n) (sends H S)
+no-room-history : (d : Desk) (m : Model) (old : List ℕ) (t : Turn) (left : List ℕ) → History d m → (length old ≡ 262 → ⊥) → Sends d old t left → History (t .desk) m
+no-room-history d m old t left H n S = subst (History (t .desk)) (none-sent (length old) m n) (sends H S)
 
-module _ (s : Scene) (K : Known s) (d : Desk) (m : Model) (H : History true d m) (same-sends : m .sends ≡ s .history .sends) where
+module _ (s : Scene) (K : Known s) (d : Desk) (m : Model) (H : History d m) (same-sends : m .sends ≡ s .history .sends) where
   turned-line : OnLine s → OnLine (turned s d m)
   turned-line L = record { number = L .number; sends = same-sends ∙ L .sends; words = L .words; clean = L .clean; small = L .small }
 
@@ -161,19 +161,19 @@ module _ (s : Scene) (K : Known s) (free : s .fate ≡ waiting → ⊥) (old : L
 
   sent-line : OnLine (sent s (t .desk) left)
   sent-line =
-      let stood = stands true (s .desk) m (K .desk) in
+      let stood = stands (s .desk) m (K .desk) in
       record {
         number = m .sends;
         sends = one-sent m;
-        words = sent-is true (s .desk) m (K .desk) old t left S n .1;
+        words = sent-is (s .desk) m (K .desk) old t left S n .1;
         clean = stood .clean .present;
-        small = history-bytes true (s .desk) m (K .desk) .present;
+        small = history-bytes (s .desk) m (K .desk) .present;
       }
 
   sent-known : Known (sent s (t .desk) left)
   sent-known =
       record {
-        desk = subst (λ (k : ℕ). History true (t .desk) (sendM k m)) n (sends (K .desk) S);
+        desk = subst (λ (k : ℕ). History (t .desk) (sendM k m)) n (sends (K .desk) S);
         fared = sent-line;
         before = λ e. let B = K .before e in record { follower = B .follower; missed = B .missed; repeated = B .repeated };
         after = λ e.
@@ -309,7 +309,7 @@ delivered-known s K arrived a w few D F = by (s .begun) refl
     by true e = next-known s K (subst (Fared s) w (K .fared)) arrived D a F e w (few e)
 
 known : (s : Scene) → Line s → Known s
-known s (opens {d = d} {f = f} O B) = open-known d f O B
+known s (opens {answer = t} {f = f} O B) = open-known t f O B
 known s (turns {s = s₀} {d = d} {m = m} l T) = turned-known s₀ (known s₀ l) d m (turns (known s₀ l .desk) T) (turn-sends (s₀ .desk) (s₀ .history) d m T)
 known s (sends {s = s₀} {old = old} {answer = t} {left = left} l free n S) = sent-known s₀ (known s₀ l) free old t left n S
 known s (no-room {s = s₀} {old = old} {answer = t} {left = left} l n S) =

@@ -51,7 +51,7 @@ use Rattle.reading.proofs.Laws.Whole.{read-clean, index-small, packetAgain, wri
 use Rattle.follower.specs.declared.Follower.{Follower}
 use Rattle.follower.specs.declared.Followed.{Followed}
 use Rattle.follower.specs.Follower.{refusalIn as refusalInHeard}
-use Rattle.follower.proofs.Laws.Follow.{refusal-heard}
+use Rattle.follower.proofs.Laws.Follow.{refusal-heard, accepted-holds}
 use Rattle.promises.specs.Calls.{Follows}
 use Rattle.promises.specs.PacketCalls.{Writes, ReadsPacket, ReadsInto, Repairs}
 use Rattle.promises.specs.Packets.{BeyondExactly, WrittenAgain}
@@ -122,22 +122,31 @@ module _ (on : Bool) (ci : ℕ) (bytes old words : List ℕ) (W : Writes on ci b
   unfolding writtenWords
   words-are = writes-leaves on ci bytes old Done words W ∙ wrote .left
 
-  reads : Reads words on ci (recordOf bytes)
+  pub reads : Reads words on ci (recordOf bytes)
   reads = rw words-are (written-reads on ci (recordOf bytes) (wrote .index) (clean .long) are-bytes (clean .rules))
 
-  packet : packetOf words ≡ record { correction = on; ci = ci; fixed = 0 }
+  pub packet : packetOf words ≡ record { correction = on; ci = ci; fixed = 0 }
   packet = ap packetOf words-are ∙ written-packet on ci (recordOf bytes) (wrote .index) (clean .long) are-bytes (clean .rules)
+
+  pub record-read : readRecord words ≡ recordOf bytes
+  record-read = reads .rec ∙ clean .own
 
   pub written-read : (room : List ℕ) (a : Reading) (left : List ℕ) → ReadsInto words room a left → length room ≡ 248
       → (a ≡ Accepted (record { correction = on; ci = ci; fixed = 0 })) × (left ≡ recordOf bytes)
-  unfolding readRecord
   written-read room a left R n =
       let A = into-accepts words room (reads .accepted) n in
-      (reads-into-is words room a left R ∙ A .0 ∙ ap Accepted packet, reads-into-leaves words room a left R ∙ A .1 ∙ ap recordOf (reads .bytes) ∙ clean .own)
+      (reads-into-is words room a left R ∙ A .0 ∙ ap Accepted packet, reads-into-leaves words room a left R ∙ A .1 ∙ record-read)
 
   -- and where the packet alone is asked for
   pub written-read-packet : (a : Reading) → ReadsPacket words a → a ≡ Accepted (record { correction = on; ci = ci; fixed = 0 })
   written-read-packet a R = reads-packet-is words a R ∙ read-accepts words (reads .accepted) ∙ ap Accepted packet
+
+  -- any follower takes it in, and then holds the record
+  pub written-followed : (f : Follower) (a : Followed) → Follows f words a → (refusalInHeard (a .heard) ≡ none) × (a .follower .rec ≡ recordOf bytes)
+  written-followed f a F = (
+    sym (follow-tells f words a F) ∙ reads .accepted,
+    ap (λ (x : Followed). x .follower .rec) (follows-is f words a F) ∙ accepted-holds f words (reads .accepted) .bytes ∙ record-read,
+  )
 
   -- with correction on, the bytes that the protected words carry are a codeword
   pub written-protected : on ≡ true → Codeword (lowBytes (protectedOf words))

@@ -40,7 +40,7 @@ use Rattle.reading.specs.Reading.{dataWords, headRefusal, protectedRefusal, bod
 use Rattle.steps.specs.declared.Step.{Step}
 use Rattle.steps.specs.Steps.{stepRefusal, oldOf, backRefusal}
 use Rattle.desk.specs.declared.Desk.{Desk}
-use Rattle.desk.specs.Desk.{undoRefusal, sendRefusal}
+use Rattle.desk.specs.Desk.{openRefusal, undoRefusal, sendRefusal}
 use Rattle.b40.specs.Packing.{packRefusal}
 use Rattle.b40.specs.Unpacking.{unpackRefusal}
 use Rattle.promises.specs.Places.{isRule, isWord, isReserved, RightPlace, RightIn}
@@ -319,6 +319,10 @@ step-right item bytes = search (checks, place-right)
 pub back-right : (s : Step) (room : ℕ) → RightIn 0 (backRefusal s room)
 unfolding backRefusal
 back-right s room = put-right (s .item) (oldOf s) room
+
+pub open-right : (on : Bool) → RightIn 0 (openRefusal on)
+unfolding openRefusal numberOf
+open-right on = search checks
 
 pub undo-right : (d : Desk) → RightIn 0 (undoRefusal d)
 unfolding undoRefusal numberOf

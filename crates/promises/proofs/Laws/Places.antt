@@ -25,7 +25,7 @@ use Rattle.writing.proofs.Laws.Writing.{refusal-said as write-said, layout-said
 use Rattle.reading.specs.Answer.{refusalIn as refusalInReading}
 use Rattle.reading.proofs.Laws.Answer.{refusal-said as read-said, into-refusal-said as into-said}
 use Rattle.steps.specs.Steps.{keptOf}
-use Rattle.desk.specs.Desk.{edited, undone, sent}
+use Rattle.desk.specs.Desk.{opened, edited, undone, sent}
 use Rattle.follower.specs.Follower.{refusalIn as refusalInHeard}
 use Rattle.follower.proofs.Laws.Follow.{refusal-heard}
 use Rattle.b40.specs.Unpacking.{refusalIn as refusalInField}
@@ -39,7 +39,7 @@ use Rattle.follower.specs.declared.Heard.the-variants.{Accepted as Arrived, Ref
 use Rattle.answers.specs.Answers.{answerBy, packetFrom, heardFrom, followedFrom}
 use Rattle.answers.proofs.Laws.Done.{Says, word-says, verdict-says, packet-says, repaired-says, field-says, turn-says, followed-says}
 use Rattle.promises.specs.Places.{RightPlace, RightIn, BitsBeside, PlacesRight, AnswersRight, BitsRight}
-use Rattle.promises.proofs.Laws.Placed.{check-right, words-right, fill-right, block-right, decode-right, marked-right, place-right, item-right, record-right, written-right, put-right, store-right, repair-right, count-right, write-right, layout-right, read-right, into-right, step-right, back-right, undo-right, send-right, pack-right, unpack-right}
+use Rattle.promises.proofs.Laws.Placed.{open-right, check-right, words-right, fill-right, block-right, decode-right, marked-right, place-right, item-right, record-right, written-right, put-right, store-right, repair-right, count-right, write-right, layout-right, read-right, into-right, step-right, back-right, undo-right, send-right, pack-right, unpack-right}
 use Rattle.soundness.proofs.check_word.Kinds as check-word-types
 use Rattle.soundness.proofs.check_word.Reads as check-word-contract
 use Rattle.soundness.proofs.check_words.Kinds as check-words-types
@@ -88,6 +88,8 @@ use Rattle.steps.proofs.step_of.Kinds as history-step-types
 use Rattle.steps.proofs.step_of.Reads as history-step-contract
 use Rattle.steps.proofs.put_back.Kinds as put-back-types
 use Rattle.steps.proofs.put_back.Reads as put-back-contract
+use Rattle.desk.proofs.Desk.open.Kinds as desk-open-types
+use Rattle.desk.proofs.Desk.open.Reads as desk-open-contract
 use Rattle.desk.proofs.Desk.edit.Kinds as desk-edit-types
 use Rattle.desk.proofs.Desk.edit.Reads as desk-edit-contract
 use Rattle.desk.proofs.Desk.undo.Kinds as desk-undo-types
@@ -118,6 +120,8 @@ use Rattle.capi.proofs.ay_pack.Kinds as ay-pack-types
 use Rattle.capi.proofs.ay_pack.Reads as ay-pack-contract
 use Rattle.capi.proofs.ay_unpack.Kinds as ay-unpack-types
 use Rattle.capi.proofs.ay_unpack.Reads as ay-unpack-contract
+use Rattle.capi.proofs.ay_desk_open.Kinds as ay-desk-open-types
+use Rattle.capi.proofs.ay_desk_open.Reads as ay-desk-open-contract
 use Rattle.capi.proofs.ay_desk_edit.Kinds as ay-desk-edit-types
 use Rattle.capi.proofs.ay_desk_edit.Reads as ay-desk-edit-contract
 use Rattle.capi.proofs.ay_desk_undo.Kinds as ay-desk-undo-types
@@ -217,6 +221,10 @@ history-step κs i a s p = rw (p, refusal-in) (step-right _ _)
 pub put-back : PlacesRight 1 put-back-types.ps put-back-types.r 0 (λ κs. refusalIn) put-back-contract.Learnt
 put-back κs i a s p = rw (p .0, refusal-in) (back-right _ _)
 
+pub desk-open : PlacesRight 0 desk-open-types.ps desk-open-types.r 0 (λ κs a. refusalIn (a .checked)) desk-open-contract.Learnt
+unfolding opened
+desk-open κs i a s p = rw (p, refusal-in) (open-right _)
+
 pub desk-edit : PlacesRight 1 desk-edit-types.ps desk-edit-types.r 0 (λ κs a. refusalIn (a .checked)) desk-edit-contract.Learnt
 unfolding edited
 desk-edit κs i a s p = rw (p, refusal-in) (item-right _ _)
@@ -285,6 +293,10 @@ ay-pack κs i a s p = rw (p .0) (answer-right _ (pack-right _ _ _ _))
 
 pub ay-unpack : AnswersRight 2 ay-unpack-types.ps ay-unpack-types.r 0 (λ κs a. a .number) (λ κs a. a .place) ay-unpack-contract.Learnt
 ay-unpack κs i a s p = rw (p .0) (says-right (field-says _) (rw unpack-said (unpack-right _ _)))
+
+pub ay-desk-open : AnswersRight 0 ay-desk-open-types.ps ay-desk-open-types.r 0 (λ κs a. a .number) (λ κs a. a .place) ay-desk-open-contract.Learnt
+unfolding opened
+ay-desk-open κs i a s p = rw p (says-right (turn-says _) (rw refusal-in (open-right _)))
 
 pub ay-desk-edit : AnswersRight 1 ay-desk-edit-types.ps ay-desk-edit-types.r 0 (λ κs a. a .number) (λ κs a. a .place) ay-desk-edit-contract.Learnt
 unfolding edited

@@ -94,14 +94,14 @@ unfolding cleanOf cleanIn rowOf items
 private-clean bytes = refl
 
 -- 141 bytes, whatever they are, are stored, at any desk that was opened
-pub edit-private : (on : Bool) (d : Desk) (m : Model) → History on d m → (bytes : List ℕ) (t : Turn) → Edits d 13 bytes t → length bytes ≡ 141 → PrivateStored d bytes t
-edit-private on d m H bytes t E n =
-    let h : length (d .bytes) ≡ 248 = history-long on d m H in
+pub edit-private : (d : Desk) (m : Model) → History d m → (bytes : List ℕ) (t : Turn) → Edits d 13 bytes t → length bytes ≡ 141 → PrivateStored d bytes t
+edit-private d m H bytes t E n =
+    let h : length (d .bytes) ≡ 248 = history-long d m H in
     let a : itemRefusal 13 bytes ≡ none = private-refusal bytes ∙ rw (eq-eqb (length bytes) 141 n) in
     record {
       done = edit-done d 13 bytes t E a;
-      stored = sym (private-item (t .desk .bytes)) ∙ edit-stores on d m H 13 bytes t E a ∙ private-clean bytes;
+      stored = sym (private-item (t .desk .bytes)) ∙ edit-stores d m H 13 bytes t E a ∙ private-clean bytes;
       before = ap (take 107) (edit-bytes d 13 bytes t E a) ∙ private-before (d .bytes) bytes h n;
-      step = edit-keeps on d m H 13 bytes t E a ∙ private-step (d .bytes) h;
+      step = edit-keeps d m H 13 bytes t E a ∙ private-step (d .bytes) h;
       kept = private-long (d .bytes) h;
     }

@@ -2,7 +2,7 @@
 -- writes them as they stand, writes its record.
 -- Assumes nothing.
 use mathlib.Core.Path.{_≡_, sym, ap, _∙_, subst}
-use mathlib.Core.Bool.{Bool}
+use mathlib.Core.Bool.{true}
 use mathlib.Core.List.{List}
 use Prim.Native.Nat.{ℕ, _%_}
 use native.Mathlib.Omega.{arith}
@@ -27,9 +27,9 @@ use Rattle.promises.specs.Unbroken.{Unbroken}
 use Rattle.promises.proofs.Laws.PacketCalls.{checks-record-is, writes-leaves}
 use Rattle.promises.proofs.Laws.History.{stands, sent-is}
 
-module _ (on : Bool) (d : Desk) (m : Model) (h : History on d m) where
+module _ (d : Desk) (m : Model) (h : History d m) where
   clean : CleanRecord (d .bytes)
-  clean = let s = stands on d m h in subst CleanRecord (sym (s .bytes)) (s .clean .present)
+  clean = let s = stands d m h in subst CleanRecord (sym (s .bytes)) (s .clean .present)
 
   -- its bytes break no rule, with zeros in the reserved area,
   pub never-broken : Unbroken (d .bytes)
@@ -46,12 +46,12 @@ module _ (on : Bool) (d : Desk) (m : Model) (h : History on d m) where
 
   module _ (old : List ℕ) (t : Turn) (left : List ℕ) (S : Sends d old t left) (n : length old ≡ 262) where
     -- so the words sent are those of its record,
-    pub sent-record : left ≡ packetWords on (m .sends % 16) (recordOf (d .bytes))
-    sent-record = sent-is on d m h old t left S n .1 ∙ ap (packetWords on (m .sends % 16)) (sym (stands on d m h .bytes) ∙ sym (clean .own))
+    pub sent-record : left ≡ packetWords true (m .sends % 16) (recordOf (d .bytes))
+    sent-record = sent-is d m h old t left S n .1 ∙ ap (packetWords true (m .sends % 16)) (sym (stands d m h .bytes) ∙ sym (clean .own))
 
     -- the very ones that the call that writes a packet from bytes writes from its bytes
-    pub sent-written : (a : Written) (words : List ℕ) → Writes on (m .sends % 16) (d .bytes) old a words → left ≡ words
+    pub sent-written : (a : Written) (words : List ℕ) → Writes true (m .sends % 16) (d .bytes) old a words → left ≡ words
     unfolding writtenWords
     sent-written a words W =
         let done = wrote-done (m .sends % 16) (d .bytes) (clean .long) (omega arith) (clean .rules) in
-        sent-record ∙ sym (done-wrote on (m .sends % 16) (d .bytes) old (rw n done) .left) ∙ sym (writes-leaves on (m .sends % 16) (d .bytes) old a words W)
+        sent-record ∙ sym (done-wrote true (m .sends % 16) (d .bytes) old (rw n done) .left) ∙ sym (writes-leaves true (m .sends % 16) (d .bytes) old a words W)

@@ -13,16 +13,22 @@ use Rattle.gf256.specs.Field.{_⊕_, _⊗_, byBits, double}
 use Rattle.refusal.specs.declared.Wrong.the-variants.{B8, B9, Both}
 use Rattle.anc.specs.Word.{isSound, wordOf, withB9, bit, ones, parityOf as evenParity, total, checksumOf}
 use Rattle.soundness.specs.declared.Soundness.the-variants.{Unsound}
-use Rattle.soundness.specs.Check.{b8Right, b9Right, soundnessBy, soundnessOf}
+use Rattle.soundness.specs.Check.{b8Right, b9Right, soundnessBy, soundnessOf, unsoundFrom}
 use Rattle.anc.proofs.Laws.Bits.{bit-lt, parity-low}
 use Rattle.anc.proofs.Laws.Word.{RightBits, sound-right, word-parts}
 use Rattle.soundness.proofs.Laws.Check.{narrow-answer}
 use Rattle.rs.specs.Polynomial.{_⊞_, scale}
 use Rattle.rs.specs.Codeword.{parityOf, remainder, next, divisorBytes}
-use Rattle.rules.specs.Rules.{soundByte, oneOf, pictureRule, lowHalf, timeRule, timeByte, decimal}
-use Rattle.anc.specs.Words.{soundWords, flag}
+use Rattle.rules.specs.Rules.{stationRule, stationByte, soundByte, soundRule, oneOf, pictureRule, pictureClean, lowHalf, timeRule, timeByte, decimal}
+use Rattle.anc.specs.Words.{soundWords, flag, narrow, hasFlag, lowBytes}
 use Rattle.writing.specs.Layout.{packetWords, summedWords, kind, headerWord, protectedWords}
-use Rattle.items.specs.Items.{items}
+use Rattle.basics.specs.Each.{all, same}
+use Rattle.refusal.specs.Run.{firstFrom}
+use Rattle.record.specs.Reserved.{reservedArea, reservedRefusal}
+use Rattle.record.specs.Record.{broken, contentRefusal, laidOut, recordOf}
+use Rattle.reading.specs.Reading.{correctionOf, indexOf, protectedOf, readWords, readBytes, summedOf, readFixed, headRefusal, protectedRefusal, bodyRefusal, readRefusal, readRecord}
+use Rattle.reading.specs.Answer.{packetOf, readingOf}
+use Rattle.items.specs.Items.{items, part}
 use Rattle.items.specs.Item.{rowOf, put, putIn, putItem}
 use Rattle.desk.specs.Desk.{opening}
 use Rattle.sequence.specs.Sequence.{stepOf, kindOf}
@@ -103,14 +109,17 @@ module _ (w : ℕ) (s : isSound w ≡ true) where
 -- ---- the table
 
 pub values : Values
-unfolding opening items rowOf put putIn putItem stepOf kindOf packetWords summedWords kind flag headerWord protectedWords soundWords wordOf withB9 bit ones evenParity total checksumOf parityOf remainder next divisorBytes _⊞_ scale _⊗_ byBits double _⊕_ soundByte oneOf pictureRule lowHalf timeRule timeByte decimal
+unfolding opening items rowOf put putIn putItem stepOf kindOf packetWords summedWords kind flag headerWord protectedWords soundWords wordOf withB9 bit ones evenParity total checksumOf parityOf remainder next divisorBytes _⊞_ scale _⊗_ byBits double _⊕_ stationRule stationByte soundByte soundRule oneOf pictureRule pictureClean lowHalf timeRule timeByte decimal isSound b8Right b9Right soundnessOf unsoundFrom firstFrom all same narrow hasFlag lowBytes part broken reservedArea reservedRefusal contentRefusal laidOut recordOf correctionOf indexOf protectedOf readWords readBytes summedOf readFixed headRefusal protectedRefusal bodyRefusal readRefusal readRecord packetOf readingOf
 values = record {
   byte-85 = refl;
   byte-0F = refl;
   parity-of-one = refl;
   zero-on = refl;
   zero-off = refl;
+  zero-off-read = refl;
   fresh-off = refl;
+  fresh-off-read = refl;
+  fresh-off-record = refl;
   sound-92 = refl;
   sound-89 = refl;
   sound-32 = refl;
