@@ -21,5 +21,5 @@ int main(void)
         return 1;
     if (ay_pack(false, 9, 0, words, AY_PACKET_WORDS, field, AY_FIELD_BYTES).number != AY_DONE)
         return 1;
-    return fwrite(field, 1, sizeof(field), stdout) == sizeof(field) ? 0 : 1;
+    return fwrite(field, 1, sizeof(field), stdout) == sizeof(field) && fflush(stdout) == 0 ? 0 : 1;
 }

@@ -47,7 +47,7 @@ pub record Values : Type 0 where
   pub byte-0F : wordOf 0x0F ≡ 0x20F
   pub parity-of-one : soundWords (parityOf (replicate 247 0 ++ 0x01 ∷ [])) ≡ 0x23F ∷ 0x101 ∷ 0x1DA ∷ 0x120 ∷ 0x1E3 ∷ 0x126 ∷ []
   pub zero-on : sumWord (packetWords true 0 (replicate 248 0)) ≡ 0x2DC
-  -- no desk sends with correction off: these are cases of the layout, and of reading, for which zero data lack a station code
+  -- with correction off, which no desk sends, two cases of the layout and, behind each, of reading: for a reader zero data lack a station code
   pub zero-off : sumWord (packetWords false 0 (replicate 248 0)) ≡ 0x15C
   pub zero-off-read : readingOf (packetWords false 0 (replicate 248 0)) ≡ Refused (refusalAt Station 1)
   pub fresh-off : sumWord (packetWords false 0 opening) ≡ 0x149

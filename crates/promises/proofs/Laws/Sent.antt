@@ -13,8 +13,9 @@ use Rattle.anc.specs.Words.{soundWords, flag}
 use Rattle.rs.specs.Polynomial.{_⊞_, scale}
 use Rattle.rs.specs.Codeword.{parityOf, remainder, next, divisorBytes}
 use Rattle.writing.specs.Layout.{kind, headerWord, protectedWords, summedWords, packetWords}
-use Rattle.writing.proofs.Laws.Layout.{packet-carries, header-low, header-b7}
+use Rattle.writing.proofs.Laws.Layout.{packet-carries}
 use Rattle.reading.specs.Reading.{correctionOf}
+use Rattle.reading.proofs.Laws.Carried.{carried-correction}
 use Rattle.steps.specs.Steps.{depth}
 use Rattle.desk.specs.declared.Desk.{Desk}
 use Rattle.desk.specs.declared.Turn.{Turn}
@@ -35,11 +36,10 @@ sent-as-they-stand d old t left S = record {
 
 -- so that no packet that is sent has correction off
 pub always-on : (d : Desk) (old : List ℕ) (t : Turn) (left : List ℕ) → Sends d old t left → length old ≡ 262 → correctionOf left ≡ true
-unfolding correctionOf
 always-on d old t left S n =
     let ci : ℕ = d .ci % 16 in
     ap correctionOf (sent-as-they-stand d old t left S .words n ∙ packet-carries true ci (d .bytes))
-    ∙ header-b7 true ci (headerWord true ci) (omega arith) (header-low true ci (omega arith))
+    ∙ carried-correction true ci (d .bytes) (protectedWords true (d .bytes)) (omega arith)
 
 -- ---- a desk made by hand: no station code, byte 44, which is reserved, in use, and CI 200
 

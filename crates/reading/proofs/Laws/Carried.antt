@@ -30,17 +30,21 @@ pub record Reads (words : List ℕ) (on : Bool) (ci : ℕ) (r : List ℕ) : Type
   pub bytes : readBytes words ≡ r
   pub rec : readRecord words ≡ recordOf r
 
+-- ---- the header, whatever the record and the protected words are
+
+pub carried-correction : (on : Bool) (ci : ℕ) (r q : List ℕ) → ci ≤ 15 → correctionOf (carrying on ci r q) ≡ on
+unfolding correctionOf
+carried-correction on ci r q hc = header-b7 on ci (headerWord on ci) hc (header-low on ci hc)
+
+carried-index : (on : Bool) (ci : ℕ) (r q : List ℕ) → ci ≤ 15 → indexOf (carrying on ci r q) ≡ ci
+unfolding indexOf
+carried-index on ci r q hc = header-index on ci (headerWord on ci) hc (header-low on ci hc)
+
+-- ---- the whole packet
+
 module _ (on : Bool) (ci : ℕ) (r q : List ℕ) (hc : ci ≤ 15) (nr : length r ≡ 248) (br : Bytes r) (nq : length q ≡ 254) (wq : narrow q ≡ true) where
   abbrev ws : List ℕ
   ws = carrying on ci r q
-
-  pub carried-correction : correctionOf ws ≡ on
-  unfolding correctionOf
-  carried-correction = header-b7 on ci (headerWord on ci) hc (header-low on ci hc)
-
-  carried-index : indexOf ws ≡ ci
-  unfolding indexOf
-  carried-index = header-index on ci (headerWord on ci) hc (header-low on ci hc)
 
   pub carried-protected : protectedOf ws ≡ q
   unfolding protectedOf
@@ -78,7 +82,7 @@ module _ (on : Bool) (ci : ℕ) (r q : List ℕ) (hc : ci ≤ 15) (nr : length r
 
     -- once its protected words are read as they were written, the packet reads as what was written
     pub reads : protectedRefusal (correctionOf ws) (protectedOf ws) ≡ none → contentRefusal r ≡ none → Reads ws on ci r
-    reads e b = record { accepted = accepted; correction = carried-correction; index = carried-index; bytes = carried-bytes; rec = carried-record }
+    reads e b = record { accepted = accepted; correction = carried-correction on ci r q hc; index = carried-index on ci r q hc; bytes = carried-bytes; rec = carried-record }
       where
         accepted : readRefusal ws ≡ none
         accepted =

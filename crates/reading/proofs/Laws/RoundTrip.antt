@@ -41,7 +41,7 @@ module _ (ci : ℕ) (r q : List ℕ) (hc : ci ≤ 15) (nr : length r ≡ 248) (b
       repair-recovers (r ++ parityOf r) q (damage-within (r ++ parityOf r) q C (nq ∙ sym (C .long)) (rw (protected-on r) at few))
 
   on : correctionOf ws ≡ true
-  on = carried-correction true ci r q hc nr br nq wq
+  on = carried-correction true ci r q hc
 
   protected : protectedOf ws ≡ q
   protected = carried-protected true ci r q hc nr br nq wq
@@ -68,7 +68,7 @@ module _ (ci : ℕ) (r : List ℕ) (hc : ci ≤ 15) (nr : length r ≡ 248) (br 
   off-words = carrying false ci r (protectedWords false r)
 
   off : correctionOf off-words ≡ false
-  off = carried-correction false ci r (protectedWords false r) hc nr br (length-protected false r nr) (protected-narrow false r br)
+  off = carried-correction false ci r (protectedWords false r) hc
 
   off-protected : protectedOf off-words ≡ protectedWords false r
   off-protected = carried-protected false ci r (protectedWords false r) hc nr br (length-protected false r nr) (protected-narrow false r br)
