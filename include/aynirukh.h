@@ -5,7 +5,7 @@
  *   - a pointer and the length behind it, counted in elements, are one run of memory that may be read, and written where it is not
  *     const; the pointer is aligned and is not null, even where the length is 0;
  *   - a buffer that is written overlaps no other buffer of the same call;
- *   - a bool is true or false, also the one in an AyFollower.
+ *   - a bool is true or false, also those in an AyFollower.
  * No call keeps a pointer, allocates, or waits. A desk and a follower are plain values, handed in and handed back: keep the one that
  * comes back.
  *
@@ -163,11 +163,21 @@ typedef struct {
     uint8_t place;
 } AyTurn;
 
-/* Has a packet been accepted, the record and the CI of the latest one, and the counts, which stop at 4,294,967,295. */
+/* The record at the last position and its CI, the record before it, and whether the two were successive: the one at the position came as AY_NEXT with
+ * nothing missed. 498 bytes. */
+typedef struct {
+    uint8_t at[AY_RECORD_BYTES];
+    uint8_t ci;
+    uint8_t before[AY_RECORD_BYTES];
+    bool successive;
+} AyHeld;
+
+/* Has a packet been accepted; the two records; back: is the one before shown, and not the one at the position? And the counts, which stop at
+ * 4,294,967,295. 520 bytes. ay_follower_shown gives the record shown. */
 typedef struct {
     bool started;
-    uint8_t rec[AY_RECORD_BYTES];
-    uint8_t ci;
+    AyHeld held;
+    bool back;
     uint32_t accepted;
     uint32_t repeated;
     uint32_t conflicting;
@@ -253,9 +263,13 @@ AyTurn ay_desk_send(AyDesk desk, uint16_t *out, size_t out_len);
 /* A follower at which nothing has arrived. Refuses nothing. */
 AyFollower ay_follower_open(void);
 
-/* Takes 262 words in: FIRST, NEXT, REPEAT or CONFLICT, and what was missed and set. Refuses 1 to 10, 15, 11 to 14, which the follower
- * counts. */
+/* Takes 262 words in: FIRST, NEXT, REPEAT or CONFLICT, and what was missed and set. Say that its CI is d above that of the position, modulo 16: with
+ * d 0 and the record at the position it is REPEAT, with another record CONFLICT, which replaces that record alone; with d 15 and the record before,
+ * where the two were successive, it is REPEAT; else it is NEXT, and d - 1 are missed. Refuses 1 to 10, 15, 11 to 14, which the follower counts. */
 AyFollowed ay_follower_follow(AyFollower follower, const uint16_t *words, size_t words_len);
+
+/* Leaves in out the record shown, 248 bytes: that of the packet accepted last, or zeros where none was. Refuses 23. */
+AyAnswer ay_follower_shown(AyFollower follower, uint8_t *out, size_t out_len);
 
 #ifdef __cplusplus
 }

@@ -9,6 +9,9 @@
  *   - turns at a desk, which opens with correction on only: edits of the items that may hold anything, the private bytes among them, undos and sends,
  *     beside a history of whole records kept here: the desk's bytes must be the record that it gives, and the words sent those that GStreamer's
  *     encoder makes of it;
+ *   - packets of GStreamer's encoder, damaged, at a follower, in every order: the next one, the same again or another with its index, the one before
+ *     again or another with that index, any index, and packets that are refused; beside a follower kept here: kind, missed, onsets, counts and the record
+ *     shown must be its own;
  *   - every number of 16 bits through the word check, and packets with correction off in which upper bits are wrong: what is wrong, and of which
  *     word, must be as counted here.
  * A line for each sort of marked delivery says which rule repaired how many. The last line says how many of each were equal; the exit status is 0
@@ -536,6 +539,108 @@ static void desk_turn(long n)
     }
 }
 
+/* a follower, and beside it what is kept here */
+static AyFollower follower_there;
+static struct {
+    int started, ci, successive;
+    uint8_t at[DATA], before[DATA], shown[DATA];
+    uint32_t accepted, repeated, conflicting, missed, refused;
+} kept;
+static long kinds[5], frames;
+
+/* the triggers that are set in one record and not in the other, Q1 lowest */
+static uint32_t set_since(const uint8_t *old, const uint8_t *new)
+{
+    uint32_t set = 0;
+    for (int q = 0; q < 32; q++)
+        if (new[29 + q / 8] >> q % 8 & 1 && !(old[29 + q / 8] >> q % 8 & 1))
+            set |= (uint32_t)1 << q;
+    return set;
+}
+
+/* what the packet of this index and record is to the one kept here, which then goes on */
+static int stands(int ci, const uint8_t *record, int *missed, uint32_t *onsets)
+{
+    int d = (ci - kept.ci + 16) % 16, kind;
+    *missed = 0;
+    *onsets = 0;
+    if (!kept.started) {
+        kind = AY_FIRST;
+    } else if (d == 0 && !memcmp(kept.at, record, DATA)) {
+        kind = AY_REPEAT;
+    } else if (d == 0) {
+        kind = AY_CONFLICT;
+    } else if (d == 15 && kept.successive && !memcmp(kept.before, record, DATA)) {
+        kind = AY_REPEAT;
+        frames++;
+    } else {
+        kind = AY_NEXT;
+        *missed = d - 1;
+    }
+    if (kind == AY_NEXT || kind == AY_CONFLICT)
+        *onsets = set_since(kept.at, record);
+    if (kind == AY_NEXT) {
+        memcpy(kept.before, kept.at, DATA);
+        kept.successive = d == 1;
+    }
+    if (kind != AY_REPEAT) {
+        memcpy(kept.at, record, DATA);
+        kept.ci = ci;
+    }
+    memcpy(kept.shown, record, DATA);
+    kept.started = 1;
+    kept.accepted++;
+    kept.repeated += kind == AY_REPEAT;
+    kept.conflicting += kind == AY_CONFLICT;
+    kept.missed += (uint32_t)*missed;
+    return kind;
+}
+
+/* one packet more, of one of three records, so that equal ones are met often */
+static void follow_turn(long n)
+{
+    static uint8_t of[3][DATA];
+    static const int step[12] = {1, 1, 1, 1, 0, 0, 15, 15, 15, 14, 2, -1};
+    uint16_t words[AY_PACKET_WORDS];
+    uint8_t shown[DATA], record[DATA];
+    for (int which = 0; which < 3; which++)
+        if (n % 150 == 50 * which || n == 0) {
+            memcpy(of[which], ay_desk_open(true).desk.bytes, DATA);
+            for (int i = 29; i < 33; i++)
+                of[which][i] = (uint8_t)next();
+        }
+    memcpy(record, of[next() % 3], DATA);
+    int by = step[next() % 12], ci = by < 0 ? (int)(next() % 16) : (kept.ci + by) % 16, missed, refused = next() % 40 == 0;
+    uint32_t onsets;
+    if (by == 15 && kept.successive && next() % 2)
+        memcpy(record, kept.before, DATA);
+    foreign(words, record, 1, ci, n);
+    for (int i = 0; i < 3; i++)
+        words[7 + next() % BLOCK] = (uint16_t)(next() % 1024);
+    if (refused)
+        words[0] = 1;
+    AyFollowed f = ay_follower_follow(follower_there, words, AY_PACKET_WORDS);
+    if (refused) {
+        kept.refused++;
+        if (f.number != AY_FLAG || f.kind != AY_NONE)
+            fail("a refused packet at a follower", n);
+    } else {
+        int kind = stands(ci, record, &missed, &onsets);
+        kinds[kind]++;
+        if (f.number != AY_DONE || f.kind != kind || f.ci != ci || f.missed != missed || f.onsets != onsets)
+            fail("what a follower heard", n);
+    }
+    follower_there = f.follower;
+    if (f.follower.accepted != kept.accepted || f.follower.repeated != kept.repeated || f.follower.conflicting != kept.conflicting ||
+        f.follower.missed != kept.missed || f.follower.refused != kept.refused)
+        fail("a follower's count", n);
+    if (ay_follower_shown(follower_there, shown, DATA).number != AY_DONE || memcmp(shown, kept.shown, DATA))
+        fail("the record shown", n);
+    memset(shown, 0xA5, DATA);
+    if (ay_follower_shown(follower_there, shown, DATA - 1).number != AY_ROOM || shown[0] != 0xA5 || shown[DATA - 2] != 0xA5)
+        fail("too little room for the record shown", n);
+}
+
 /* data words of a packet with correction off are changed: reading names the first that is not sound, and what is wrong with it */
 static void unsound(long n)
 {
@@ -591,8 +696,12 @@ int main(int argc, char **argv)
     open_desk();
     for (long n = 0; n < packets; n++)
         desk_turn(n);
+    follower_there = ay_follower_open();
+    for (long n = 0; n < packets; n++)
+        follow_turn(n);
+    printf("compare: at a follower %ld FIRST, %ld NEXT, %ld REPEAT, %ld of them of the record before, %ld CONFLICT, %lu refused\n", kinds[AY_FIRST],
+           kinds[AY_NEXT], kinds[AY_REPEAT], frames, kinds[AY_CONFLICT], (unsigned long)kept.refused);
     printf("compare: %ld deliveries and %ld marked ones equal to libfec and to our check, %ld packets equal to GStreamer's, 65536 words and %ld "
-           "packets with unsound words and %ld with counters as counted, %ld turns at a desk as our history has them\n", deliveries, marks, packets, packets,
-           packets, packets);
+           "packets with unsound words and %ld with counters as counted, %ld turns at a desk as our history has them, %ld packets at a follower as at ours\n", deliveries, marks, packets, packets, packets, packets, packets);
     return 0;
 }

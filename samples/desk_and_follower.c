@@ -16,8 +16,9 @@ typedef char packet_is_6_bytes[sizeof(AyPacket) == 6 ? 1 : -1];
 typedef char step_is_142_bytes[sizeof(AyStep) == 142 ? 1 : -1];
 typedef char desk_is_4794_bytes[sizeof(AyDesk) == 4794 ? 1 : -1];
 typedef char turn_is_4796_bytes[sizeof(AyTurn) == 4796 ? 1 : -1];
-typedef char follower_is_272_bytes[sizeof(AyFollower) == 272 ? 1 : -1];
-typedef char followed_is_284_bytes[sizeof(AyFollowed) == 284 ? 1 : -1];
+typedef char held_is_498_bytes[sizeof(AyHeld) == 498 ? 1 : -1];
+typedef char follower_is_520_bytes[sizeof(AyFollower) == 520 ? 1 : -1];
+typedef char followed_is_532_bytes[sizeof(AyFollowed) == 532 ? 1 : -1];
 
 static int differences = 0;
 
@@ -35,6 +36,14 @@ static void expect_bytes(const char *what, const void *is, const void *should, s
         printf("differs: %s\n", what);
         differences++;
     }
+}
+
+/* The record that a follower shows. */
+static void expect_shown(const char *what, AyFollower follower, const uint8_t *should)
+{
+    uint8_t shown[AY_RECORD_BYTES];
+    expect("number of looking", ay_follower_shown(follower, shown, AY_RECORD_BYTES).number, AY_DONE);
+    expect_bytes(what, shown, should, AY_RECORD_BYTES);
 }
 
 /* Byte n of a record, counted from 1. */
@@ -111,7 +120,7 @@ static void private_bytes(AyDesk desk)
     expect_bytes("their step", turn.desk.steps[desk.count].old, desk.bytes + 107, AY_PRIVATE_BYTES);
     expect("number of sending them", ay_desk_send(turn.desk, sent, AY_PACKET_WORDS).number, AY_DONE);
     AyFollowed followed = ay_follower_follow(ay_follower_open(), sent, AY_PACKET_WORDS);
-    expect_bytes("the private bytes as followed", followed.follower.rec + 107, data, AY_PRIVATE_BYTES);
+    expect_shown("the private bytes as followed", followed.follower, turn.desk.bytes);
     turn = ay_desk_undo(turn.desk);
     expect("number of their undo", turn.number, AY_DONE);
     expect_bytes("the record after their undo", turn.desk.bytes, desk.bytes, AY_RECORD_BYTES);
@@ -193,7 +202,7 @@ static void follows(AyDesk desk, const uint16_t *damaged)
     expect("onsets", heard.onsets, 0);
     expect("started", heard.follower.started, true);
     expect("accepted", heard.follower.accepted, 1);
-    expect_bytes("the record that the follower holds", heard.follower.rec, desk.bytes, AY_RECORD_BYTES);
+    expect_shown("the record that the follower shows", heard.follower, desk.bytes);
 
     heard = ay_follower_follow(heard.follower, damaged, AY_PACKET_WORDS);
     expect("kind of the same again", heard.kind, AY_REPEAT);
@@ -214,7 +223,35 @@ static void follows(AyDesk desk, const uint16_t *damaged)
     expect("missed after one dropped packet", heard.missed, 1);
     expect("onsets of Q1 and Q32", heard.onsets, 0x80000001);
     expect("missed, counted", heard.follower.missed, 1);
-    expect_bytes("the later record that the follower holds", heard.follower.rec, turn.desk.bytes, AY_RECORD_BYTES);
+    expect_shown("the later record that the follower shows", heard.follower, turn.desk.bytes);
+}
+
+/* In interlaced operation each field carries a packet, so a frame that is repeated brings both again: what is shown goes to and fro with them, and nothing
+ * is missed. */
+static void frame_again(AyDesk desk)
+{
+    const uint8_t triggers[4] = { 0x02, 0x00, 0x00, 0x00 };
+    uint16_t sent[2][AY_PACKET_WORDS];
+    AyDesk before = ay_desk_send(desk, sent[0], AY_PACKET_WORDS).desk;
+    AyDesk after = ay_desk_edit(before, 9, triggers, 4).desk;
+    expect("number of the second send of a frame", ay_desk_send(after, sent[1], AY_PACKET_WORDS).number, AY_DONE);
+    AyFollowed heard = ay_follower_follow(ay_follower_open(), sent[0], AY_PACKET_WORDS);
+    heard = ay_follower_follow(heard.follower, sent[1], AY_PACKET_WORDS);
+    expect("kind of the second packet of a frame", heard.kind, AY_NEXT);
+    expect("onsets of Q2", heard.onsets, 0x00000002);
+    for (int i = 0; i < 4; i++) {
+        heard = ay_follower_follow(heard.follower, sent[i % 2], AY_PACKET_WORDS);
+        expect("kind in a frame again", heard.kind, AY_REPEAT);
+        expect("missed in a frame again", heard.missed, 0);
+        expect("onsets in a frame again", heard.onsets, 0);
+        expect_shown("the record in a frame again", heard.follower, i % 2 ? after.bytes : before.bytes);
+    }
+    printf("repeated %lu missed %lu\n", (unsigned long) heard.follower.repeated, (unsigned long) heard.follower.missed);
+    expect("repeated in two frames", heard.follower.repeated, 4);
+    expect("missed in two frames", heard.follower.missed, 0);
+    uint8_t kept[AY_RECORD_BYTES] = { 0 }, short_room[AY_RECORD_BYTES] = { 0 };
+    expect("number of looking into 247 bytes", ay_follower_shown(heard.follower, short_room, AY_RECORD_BYTES - 1).number, AY_ROOM);
+    expect_bytes("what stood in them", short_room, kept, AY_RECORD_BYTES);
 }
 
 /* A card inverts b9 of two words of a packet with correction off: the first of them is named, and what is wrong with it. */
@@ -312,5 +349,6 @@ int main(void)
     private_bytes(turn.desk);
     fields(sent);
     follows(turn.desk, damaged);
+    frame_again(turn.desk);
     return differences == 0 ? 0 : 1;
 }

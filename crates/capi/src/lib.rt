@@ -10,7 +10,7 @@ ghost use Rattle.writing.specs.Written.{writeLeaves};
 ghost use Rattle.reading.specs.Answer.{readingOf, readingIntoOf, readLeaves};
 ghost use Rattle.repair.specs.Repair.{repairedOf, repairLeaves};
 ghost use Rattle.desk.specs.Desk.{opened, edited, undone, sent, sendLeaves};
-ghost use Rattle.follower.specs.Follower.{followed, opened as nothingArrived};
+ghost use Rattle.follower.specs.Follower.{followed, shownRefusal, shownLeaves, opened as nothingArrived};
 ghost use Rattle.b40.specs.Packing.{packRefusal, packLeaves};
 ghost use Rattle.b40.specs.Unpacking.{unpackedOf, unpackLeaves};
 ghost use Rattle.answers.specs.Answers.{answerBy, wordFrom, verdictFrom, packetFrom, repairedFrom, fieldFrom, turnFrom, followedFrom};
@@ -194,4 +194,13 @@ pub extern "C" fn ay_follower_follow(follower: Follower, words: &[u16]) -> AyFol
 {
     let heard = follower.follow(words);
     answers::followed(heard)
+}
+
+// Leaves in `out` the record that the follower shows. A refusal leaves `out` as it was.
+#[no_mangle]
+pub extern "C" fn ay_follower_shown(follower: Follower, out: &mut [u8]) -> AyAnswer
+    ensures { λ r. ⌜ (r ≡ answerBy (shownRefusal (length (now (out .entry))))) × (now (out .exit) ≡ shownLeaves follower (now (out .entry))) ⌝ }
+{
+    let checked = follower.shown_into(out);
+    answers::checked(checked)
 }

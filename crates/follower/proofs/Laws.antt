@@ -1,4 +1,5 @@
 -- Laws of the follower.
 pub mod Count
 pub mod Read
+pub mod Again
 pub mod Follow

@@ -1,5 +1,5 @@
 -- The promises: worked values; demand 1 (Only, Refused, Places), demand 2 (Packets, Words, Reserved, Opening, Sent, History, Unbroken, Private) and demand 3
--- (Line, with a line worked out); what is printed; and what a check is worth (Checking).
+-- (Line, with a line worked out, and Looked, the record shown); what is printed; and what a check is worth (Checking).
 pub mod Values
 pub mod Only
 pub mod Calls
@@ -18,5 +18,6 @@ pub mod Unbroken
 pub mod Private
 pub mod Arrival
 pub mod Line
+pub mod Looked
 pub mod Worked
 pub mod Printed

@@ -9,6 +9,7 @@ use borrow.Fn.Kinds.{Dens, endedOf}
 use contract.Lifetimes.{Lfts}
 use denote.Ref.{now}
 use denote.Triple.Clauses.{AtExit}
+use Rattle.refusal.specs.declared.Checked.{Checked}
 use Rattle.basics.specs.Below.{Bytes}
 use Rattle.desk.specs.declared.Desk.{Desk}
 use Rattle.desk.specs.declared.Turn.{Turn}
@@ -26,6 +27,10 @@ use Rattle.follower.proofs.Follower.open.Kinds as begin-types
 use Rattle.follower.proofs.Follower.open.Reads as begin-contract
 use Rattle.follower.proofs.Follower.follow.Kinds as follow-types
 use Rattle.follower.proofs.Follower.follow.Reads as follow-contract
+use Rattle.follower.proofs.Follower.shown.Kinds as shown-types
+use Rattle.follower.proofs.Follower.shown.Reads as shown-contract
+use Rattle.follower.proofs.Follower.shown_into.Kinds as shown-into-types
+use Rattle.follower.proofs.Follower.shown_into.Reads as shown-into-contract
 use Rattle.lines.specs.declared.page.Page.{Page}
 use Rattle.lines.proofs.show.Kinds as show-types
 use Rattle.lines.proofs.show.Reads as show-contract
@@ -84,6 +89,24 @@ pub record Follows (f : Follower) (words : List ℕ) (answer : Followed) : Type 
   pub own : input .0 ≡ f
   pub lent : now (input .1 .0) ≡ words
   pub allowed : follow-contract.Learnt κs input answer exit
+
+-- the follower is asked for the record shown
+pub record Looks (f : Follower) (answer : List ℕ) : Type 0 where
+  pub κs : Lfts 0
+  pub input : Dens κs shown-types.ps
+  pub exit : AtExit (endedOf 0 shown-types.ps shown-types.r) κs
+  pub own : input .0 ≡ f
+  pub allowed : shown-contract.Learnt κs input answer exit
+
+-- and to leave it in a buffer that holds `old`, in which `left` is then left
+pub record LooksInto (f : Follower) (old : List ℕ) (answer : Checked) (left : List ℕ) : Type 0 where
+  pub κs : Lfts 1
+  pub input : Dens κs shown-into-types.ps
+  pub exit : AtExit (endedOf 1 shown-into-types.ps shown-into-types.r) κs
+  pub own : input .0 ≡ f
+  pub lent : now (input .1 .0) ≡ old
+  pub leaves : now (exit .1 .0) ≡ left
+  pub allowed : shown-into-contract.Learnt κs input answer exit
 
 -- the lines of a field are written on a page
 pub record Shows (field : List ℕ) (page : Page) : Type 0 where

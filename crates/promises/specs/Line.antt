@@ -15,7 +15,7 @@ use Rattle.desk.specs.Model.{Model, fresh, sendM}
 use Rattle.follower.specs.declared.Follower.{Follower}
 use Rattle.follower.specs.declared.Followed.{Followed}
 use Rattle.follower.specs.declared.Heard.{Heard}
-use Rattle.follower.specs.Follower.{counted, refusalIn}
+use Rattle.follower.specs.Follower.{counted, refusalIn, shownBy}
 use Rattle.promises.specs.Calls.{Opens, Sends, Begins, Follows}
 use Rattle.promises.specs.History.{Turns}
 
@@ -28,29 +28,37 @@ pub record Delivers (sent arrived : List ℕ) : Type 0 where
   pub few : damage protected (protectedOf sent) ≤ 6
   pub rest : arrived ≡ take 7 sent ++ protected ++ drop 261 sent
 
--- how the packet that was sent last has fared: there is none; it is on the line; it was dropped; it was delivered, and this was heard in
--- its latest delivery
+-- how a packet has fared: there is none; it is on the line; it was dropped; it was delivered, and of the latest delivery, its own or one of the packet
+-- sent right before it: the record sent in that packet, and what was heard
 pub data Fate : Type 0 where
   unsent : Fate
   waiting : Fate
   dropped : Fate
-  delivered : Heard → Fate
+  delivered : List ℕ → Heard → Fate
+
+-- a packet that was sent: the record, the words, and how they fared
+pub record Sent : Type 0 where
+  pub bytes : List ℕ
+  pub words : List ℕ
+  pub fate : Fate
 
 -- the desk with what its history gives, the follower, and what is true of the line between them
 pub record Scene : Type 0 where
   pub desk : Desk
   pub history : Model
   pub follower : Follower
-  -- of the packet that was sent last: the record, the words, and how they fared
-  pub bytes : List ℕ
-  pub words : List ℕ
-  pub fate : Fate
+  -- the packet that was sent last, and the one sent right before it
+  pub latest : Sent
+  pub earlier : Sent
   -- has there been a delivery? how many packets were dropped since the latest, how many since the first, and how many deliveries were
   -- repeats
   pub begun : Bool
   pub gap : ℕ
   pub missed : ℕ
   pub repeated : ℕ
+
+abbrev pub nothing : Sent
+nothing = record { bytes = []; words = []; fate = unsent }
 
 -- the desk that an opening hands back and a fresh follower
 abbrev pub opening : Desk → Follower → Scene
@@ -59,9 +67,8 @@ opening d f =
       desk = d;
       history = fresh;
       follower = f;
-      bytes = [];
-      words = [];
-      fate = unsent;
+      latest = nothing;
+      earlier = nothing;
       begun = false;
       gap = 0;
       missed = 0;
@@ -75,9 +82,8 @@ turned s d m =
       desk = d;
       history = m;
       follower = s .follower;
-      bytes = s .bytes;
-      words = s .words;
-      fate = s .fate;
+      latest = s .latest;
+      earlier = s .earlier;
       begun = s .begun;
       gap = s .gap;
       missed = s .missed;
@@ -91,14 +97,17 @@ sent s d left =
       desk = d;
       history = sendM 262 (s .history);
       follower = s .follower;
-      bytes = s .history .present;
-      words = left;
-      fate = waiting;
+      latest = record { bytes = s .history .present; words = left; fate = waiting };
+      earlier = s .latest;
       begun = s .begun;
       gap = s .gap;
       missed = s .missed;
       repeated = s .repeated;
     }
+
+-- the packet that was sent last now fares so
+abbrev pub faring : Scene → Fate → Sent
+faring s fate = record { bytes = s .latest .bytes; words = s .latest .words; fate = fate }
 
 -- the packet is lost; it is missed where there was a delivery before it
 abbrev pub lost : Scene → Scene
@@ -107,53 +116,54 @@ lost s =
       desk = s .desk;
       history = s .history;
       follower = s .follower;
-      bytes = s .bytes;
-      words = s .words;
-      fate = dropped;
+      latest = faring s dropped;
+      earlier = s .earlier;
       begun = s .begun;
       gap = s .gap + 1;
       missed = cond (s .begun) (s .missed + 1) (s .missed);
       repeated = s .repeated;
     }
 
--- the packet arrives, after so many repeats in all
-abbrev pub heard : Scene → Followed → ℕ → Scene
-heard s a repeats =
+-- the packet of this record arrives, after so many repeats in all
+abbrev pub heard : Scene → List ℕ → Followed → ℕ → Scene
+heard s bytes a repeats =
     record {
       desk = s .desk;
       history = s .history;
       follower = a .follower;
-      bytes = s .bytes;
-      words = s .words;
-      fate = delivered (a .heard);
+      latest = faring s (delivered bytes (a .heard));
+      earlier = s .earlier;
       begun = true;
       gap = 0;
       missed = s .missed;
       repeated = repeats;
     }
 
--- Every line: packets are sent one after the other; each is dropped, or delivered after at most fourteen that were dropped in a row since
--- the delivery before; a delivered packet may be delivered again, any number of times, before the next one is sent. A send into a buffer
--- of other than 262 words may be tried at any time, also while a packet is on the line: it is refused, and no more than the desk is handed
--- back.
+-- Every line: packets are sent one after the other; each is dropped, or delivered after at most thirteen that were dropped in a row since
+-- the delivery of the one before it. Once it was delivered, it may be delivered again, and so may the packet sent right before it where that was
+-- delivered too, in any mixture and any number of times, before the next one is sent. A send into a buffer of other than 262 words may be tried at any
+-- time, also while a packet is on the line: it is refused, and no more than the desk is handed back.
 pub data Line : Scene → Type 0 where
   opens : {on : Bool} {answer : Turn} {f : Follower} → Opens on answer → Begins f → Line (opening (answer .desk) f)
   turns : {s : Scene} {d : Desk} {m : Model} → Line s → Turns (s .desk) (s .history) d m → Line (turned s d m)
-  sends : {s : Scene} {old : List ℕ} {answer : Turn} {left : List ℕ} → Line s → (s .fate ≡ waiting → ⊥) → length old ≡ 262
+  sends : {s : Scene} {old : List ℕ} {answer : Turn} {left : List ℕ} → Line s → (s .latest .fate ≡ waiting → ⊥) → length old ≡ 262
       → Sends (s .desk) old answer left → Line (sent s (answer .desk) left)
   no-room : {s : Scene} {old : List ℕ} {answer : Turn} {left : List ℕ} → Line s → (length old ≡ 262 → ⊥) → Sends (s .desk) old answer left
       → Line (turned s (answer .desk) (s .history))
-  drops : {s : Scene} → Line s → s .fate ≡ waiting → Line (lost s)
-  delivers : {s : Scene} {arrived : List ℕ} {answer : Followed} → Line s → s .fate ≡ waiting → (s .begun ≡ true → s .gap ≤ 14)
-      → Delivers (s .words) arrived → Follows (s .follower) arrived answer → Line (heard s answer (s .repeated))
-  repeats : {s : Scene} {before : Heard} {arrived : List ℕ} {answer : Followed} → Line s → s .fate ≡ delivered before
-      → Delivers (s .words) arrived → Follows (s .follower) arrived answer → Line (heard s answer (s .repeated + 1))
+  drops : {s : Scene} → Line s → s .latest .fate ≡ waiting → Line (lost s)
+  delivers : {s : Scene} {arrived : List ℕ} {answer : Followed} → Line s → s .latest .fate ≡ waiting → (s .begun ≡ true → s .gap ≤ 13)
+      → Delivers (s .latest .words) arrived → Follows (s .follower) arrived answer → Line (heard s (s .latest .bytes) answer (s .repeated))
+  repeats : {s : Scene} {bytes : List ℕ} {h : Heard} {arrived : List ℕ} {answer : Followed} → Line s → s .latest .fate ≡ delivered bytes h
+      → Delivers (s .latest .words) arrived → Follows (s .follower) arrived answer → Line (heard s (s .latest .bytes) answer (s .repeated + 1))
+  repeats-earlier : {s : Scene} {bytes bytes′ : List ℕ} {h h′ : Heard} {arrived : List ℕ} {answer : Followed} → Line s
+      → s .latest .fate ≡ delivered bytes h → s .earlier .fate ≡ delivered bytes′ h′
+      → Delivers (s .earlier .words) arrived → Follows (s .follower) arrived answer → Line (heard s (s .earlier .bytes) answer (s .repeated + 1))
 
--- what is claimed at a delivery: it is accepted, as all before it were, the record held is the one sent in that packet, and the counts
+-- what is claimed at a delivery of the packet of this record: it is accepted, as all before it were, the record shown is this one, and the counts
 -- are the true ones, up to the ceiling
-pub record Agrees (s : Scene) (h : Heard) : Type 0 where
+pub record Agrees (s : Scene) (bytes : List ℕ) (h : Heard) : Type 0 where
   pub accepted : refusalIn h ≡ none
   pub refused : s .follower .refused ≡ 0
-  pub held : s .follower .rec ≡ s .bytes
+  pub shown : shownBy (s .follower) ≡ bytes
   pub missed : s .follower .missed ≡ counted 0 (s .missed)
   pub repeated : s .follower .repeated ≡ counted 0 (s .repeated)

@@ -20,7 +20,12 @@ use Rattle.reading.specs.declared.Reading.the-variants.{Accepted, Refused}
 use Rattle.reading.specs.Reading.{readRecord}
 use Rattle.reading.specs.Answer.{readingOf}
 use Rattle.desk.specs.Desk.{opening}
-use Rattle.sequence.specs.Sequence.{stepOf, kindOf, missedOf}
+use Rattle.sequence.specs.declared.Kind.the-variants.{Repeat}
+use Rattle.reading.specs.declared.Packet.{Packet}
+use Rattle.follower.specs.declared.Arrival.{Arrival}
+use Rattle.follower.specs.declared.Held.{Held}
+use Rattle.follower.specs.declared.Follower.{Follower}
+use Rattle.follower.specs.Follower.{arrivalOf}
 
 -- the checksum word of a packet
 abbrev pub sumWord : List ℕ → ℕ
@@ -34,9 +39,15 @@ picture w0 = pictureRule (w0 ∷ 0 ∷ 0 ∷ 0 ∷ [])
 abbrev pub second : ℕ → Bool
 second b = timeRule (0xFF ∷ 0xFF ∷ 0xFF ∷ 0xFF ∷ 0xFF ∷ 0xFF ∷ b ∷ 0xFF ∷ 0xFF ∷ [])
 
--- how many packets a follower misses from one index to another
-abbrev pub missedFrom : ℕ → ℕ → ℕ
-missedFrom last new = missedOf (kindOf true (stepOf last new) false) (stepOf last new)
+-- what a packet of this index and record brings to a follower that has started and holds these two
+abbrev pub standing : Held → Follower
+standing h = record { started = true; held = h; back = false; accepted = 0; repeated = 0; conflicting = 0; missed = 0; refused = 0 }
+
+abbrev pub packetAt : ℕ → Packet
+packetAt ci = record { correction = true; ci = ci; fixed = 0 }
+
+abbrev pub arrivalAt : Held → ℕ → List ℕ → Arrival
+arrivalAt h ci arrived = arrivalOf (standing h) (packetAt ci) arrived
 
 -- a word with bit i inverted
 abbrev pub inverted : ℕ → ℕ → ℕ
@@ -65,8 +76,12 @@ pub record Values : Type 0 where
   pub second-59 : second 0x59 ≡ true
   pub second-5A : second 0x5A ≡ false
   pub second-60 : second 0x60 ≡ false
-  pub index-15-then-0 : missedFrom 15 0 ≡ 0
-  pub index-3-then-2 : missedFrom 3 2 ≡ 14
+  pub index-15-then-0 : (h : Held) (arrived : List ℕ) → h .ci ≡ 15 → arrivalAt h 0 arrived .missed ≡ 0
+  -- 3 then 2 misses 14 where the records don't match, and where the two at the follower were not successive; where they match and were, it is a REPEAT
+  pub index-3-then-2 : (h : Held) (arrived : List ℕ) → h .ci ≡ 3 → (h .before ≡ arrived → ⊥) → arrivalAt h 2 arrived .missed ≡ 14
+  pub index-3-then-2-lost : (h : Held) (arrived : List ℕ) → h .ci ≡ 3 → h .successive ≡ false → arrivalAt h 2 arrived .missed ≡ 14
+  pub index-3-then-2-again : (h : Held) → h .ci ≡ 3 → h .successive ≡ true
+      → arrivalAt h 2 (h .before) ≡ record { kind = Repeat; ci = 2; fixed = 0; missed = 0; onsets = 0 }
   pub b8-inverted : (w : ℕ) → isSound w ≡ true → soundnessOf (inverted 8 w) ≡ Unsound B8
   pub b9-inverted : (w : ℕ) → isSound w ≡ true → soundnessOf (inverted 9 w) ≡ Unsound B9
   pub both-inverted : (w : ℕ) → isSound w ≡ true → soundnessOf (inverted 8 (inverted 9 w)) ≡ Unsound Both

@@ -1,21 +1,31 @@
-// A day of a desk and a follower over a damaged line: edits, undos, sends, drops, repeats, and in each delivery as many bad words as the line may
-// have.
+// A day of a desk and a follower over a damaged line: edits, undos, sends, drops, repeats of a packet and of a frame of two, and in each delivery as
+// many bad words as the line may have.
 use desk::Desk;
 use follower::Follower;
 use std::num::wrapping_add_u32;
 
-// Desk and follower, what is true of the line, and at how many deliveries the two agreed.
+// A packet that was sent: its words, and the record in them.
+struct Sent {
+    pub words: [u16; 262],
+    pub bytes: [u8; 248],
+}
+
+// What is counted, the true numbers: of the frames that were repeated too, and of the deliveries at which desk and follower agreed. Then what the line
+// stands at, with the packet that was sent last and whether it came; and desk and follower.
 pub(crate) struct Day {
-    pub desk: Desk,
-    pub follower: Follower,
-    pub chance: u64,
-    pub gap: u32,
-    pub begun: bool,
     pub sent: u32,
     pub delivered: u32,
     pub repeated: u32,
+    pub frames: u32,
     pub missed: u32,
     pub agreed: u32,
+    pub gap: u32,
+    pub begun: bool,
+    pub came: bool,
+    pub chance: u64,
+    pub latest: Sent,
+    pub desk: Desk,
+    pub follower: Follower,
 }
 
 // The desk that an opening hands back.
@@ -137,11 +147,10 @@ fn turned(desk: Desk, chance: u64) -> Desk {
     turn.desk
 }
 
-// One if the two agree, with these true counts.
-pub(crate) fn agrees(desk: Desk, follower: Follower, missed: u32, repeated: u32) -> u32 {
-    let bytes = desk.bytes;
-    let rec = follower.rec;
-    if check::same(&bytes, &rec)
+// One if the follower shows this record, with these true counts.
+pub(crate) fn agrees(bytes: [u8; 248], follower: Follower, missed: u32, repeated: u32) -> u32 {
+    let shown = follower.shown();
+    if check::same(&bytes, &shown)
         & (follower.missed == missed)
         & (follower.repeated == repeated)
         & (follower.refused == 0)
@@ -152,89 +161,95 @@ pub(crate) fn agrees(desk: Desk, follower: Follower, missed: u32, repeated: u32)
 }
 
 // The packet arrives, damaged; `again` is 1 where it is a repeat.
-fn arrives(day: Day, words: [u16; 262], again: u32) -> Day {
+fn arrives(mut day: Day, packet: Sent, again: u32) -> Day {
     let chance = next(day.chance);
-    let mut damaged = words;
+    let mut damaged = packet.words;
     damage(&mut damaged, chance);
     let before = day.follower;
     let followed = before.follow(&damaged);
     let follower = followed.follower;
-    let desk = day.desk;
     let repeated = wrapping_add_u32(day.repeated, again);
-    Day {
-        desk,
-        follower,
-        chance,
-        gap: 0,
-        begun: true,
-        sent: day.sent,
-        delivered: wrapping_add_u32(day.delivered, 1),
-        repeated,
-        missed: day.missed,
-        agreed: wrapping_add_u32(day.agreed, agrees(desk, follower, day.missed, repeated)),
+    let bytes = packet.bytes;
+    let agreed = agrees(bytes, follower, day.missed, repeated);
+    day.follower = follower;
+    day.chance = chance;
+    day.gap = 0;
+    day.begun = true;
+    day.delivered = wrapping_add_u32(day.delivered, 1);
+    day.repeated = repeated;
+    day.agreed = wrapping_add_u32(day.agreed, agreed);
+    day
+}
+
+// The frame of two packets is repeated, twice.
+fn frame_again(day: Day, earlier: Sent, latest: Sent) -> Day {
+    let one = arrives(day, earlier, 1);
+    let two = arrives(one, latest, 1);
+    let three = arrives(two, earlier, 1);
+    let mut four = arrives(three, latest, 1);
+    four.frames = wrapping_add_u32(four.frames, 2);
+    four
+}
+
+// What the line makes of a packet: it is lost, or it arrives, and then perhaps again, or in a frame with the one before it.
+fn carried(mut day: Day, packet: Sent, chance: u64) -> Day {
+    if (chance / 1000 % 4 == 0) & (day.gap < 13) {
+        let lost = if day.begun { 1 } else { 0 };
+        day.gap = wrapping_add_u32(day.gap, 1);
+        day.missed = wrapping_add_u32(day.missed, lost);
+        day.came = false;
+        return day;
     }
+    let earlier = day.latest;
+    let both = day.came;
+    let mut once = arrives(day, packet, 0);
+    once.came = true;
+    if chance / 5000 % 3 == 0 {
+        return arrives(once, packet, 1);
+    }
+    if (chance / 5000 % 3 == 1) & both {
+        return frame_again(once, earlier, packet);
+    }
+    once
 }
 
 // A turn at the desk, a send, and what the line makes of it.
-fn tick(day: Day) -> Day {
+fn tick(mut day: Day) -> Day {
     let chance = next(day.chance);
     let before = day.desk;
     let desk = turned(before, chance);
     let mut words = [0u16; 262];
     let sending = desk.send(&mut words);
+    let bytes = desk.bytes;
+    let packet = Sent { words, bytes };
     let after = sending.desk;
-    let sent = wrapping_add_u32(day.sent, 1);
-    let follower = day.follower;
-    if (chance / 1000 % 4 == 0) & (day.gap < 14) {
-        let lost = if day.begun { 1 } else { 0 };
-        return Day {
-            desk: after,
-            follower,
-            chance,
-            gap: wrapping_add_u32(day.gap, 1),
-            begun: day.begun,
-            sent,
-            delivered: day.delivered,
-            repeated: day.repeated,
-            missed: wrapping_add_u32(day.missed, lost),
-            agreed: day.agreed,
-        };
-    }
-    let once = arrives(
-        Day {
-            desk: after,
-            follower,
-            chance,
-            gap: day.gap,
-            begun: day.begun,
-            sent,
-            delivered: day.delivered,
-            repeated: day.repeated,
-            missed: day.missed,
-            agreed: day.agreed,
-        },
-        words,
-        0,
-    );
-    if chance / 5000 % 3 == 0 {
-        return arrives(once, words, 1);
-    }
-    once
+    day.desk = after;
+    day.chance = chance;
+    day.sent = wrapping_add_u32(day.sent, 1);
+    let mut later = carried(day, packet, chance);
+    later.latest = packet;
+    later
 }
 
 // Two thousand packets.
 pub(crate) fn run() -> Day {
     let mut day = Day {
-        desk: fresh(),
-        follower: Follower::open(),
-        chance: 20261115,
-        gap: 0,
-        begun: false,
         sent: 0,
         delivered: 0,
         repeated: 0,
+        frames: 0,
         missed: 0,
         agreed: 0,
+        gap: 0,
+        begun: false,
+        came: false,
+        chance: 20261115,
+        latest: Sent {
+            words: [0u16; 262],
+            bytes: [0u8; 248],
+        },
+        desk: fresh(),
+        follower: Follower::open(),
     };
     let mut n: usize = 0;
     while n < 2000 {

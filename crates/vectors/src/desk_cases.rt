@@ -86,7 +86,7 @@ pub(crate) fn opened_off() -> u64 {
     255
 }
 
-// One if a follower takes the packet of the opening record with correction off, and then holds that record.
+// One if a follower takes the packet of the opening record with correction off, and then shows that record.
 pub(crate) fn off_followed() -> u64 {
     let desk = day::fresh();
     let bytes = desk.bytes;
@@ -94,7 +94,7 @@ pub(crate) fn off_followed() -> u64 {
     writing::write_packet(false, 0, &bytes, &mut words);
     let follower = Follower::open();
     let followed = follower.follow(&words);
-    day::agrees(desk, followed.follower, 0, 0) as u64
+    day::agrees(bytes, followed.follower, 0, 0) as u64
 }
 
 // The number of the refusal of an edit at a fresh desk with the first `count` of 141 bytes; 0 where there is none, 255 where there are not so many bytes.

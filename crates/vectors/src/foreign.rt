@@ -68,11 +68,11 @@ pub(crate) fn read_with(first: u8) -> Told {
     }
 }
 
-// How many packets a follower has refused; 255 where it does not hold the desk's record.
+// How many packets a follower has refused; 255 where it does not show the desk's record.
 fn refused(desk: Desk, follower: Follower) -> u64 {
     let bytes = desk.bytes;
-    let rec = follower.rec;
-    if check::same(&bytes, &rec) {
+    let shown = follower.shown();
+    if check::same(&bytes, &shown) {
         return follower.refused as u64;
     }
     255

@@ -45,7 +45,7 @@ fn main() {
         desk_cases::opened_off(),
     );
     line(
-        b"the opening record with correction off is read and held: ",
+        b"the opening record with correction off is read and shown: ",
         desk_cases::off_followed(),
     );
     let undone = desk_cases::undos_after(33);
@@ -87,6 +87,7 @@ fn main() {
     line(b"a day, packets sent: ", day.sent as u64);
     line(b"delivered: ", day.delivered as u64);
     line(b"of them repeats: ", day.repeated as u64);
+    line(b"in these, frames of two: ", day.frames as u64);
     line(b"missed: ", day.missed as u64);
     line(
         b"deliveries at which desk and follower agreed: ",

@@ -1,11 +1,12 @@
--- Demand 3: what is delivered over a line is accepted, the follower holds what was sent, and its counts are the true ones.
+-- Demand 3: what is delivered over a line is accepted, the follower shows what was sent, and its counts are the true ones.
 -- Assumes nothing.
 use mathlib.Core.Path.{_≡_, refl, sym, ap, _∙_, subst}
 use mathlib.Core.Bool.{Bool, true, false, cond}
 use mathlib.Core.List.{List}
 use mathlib.Core.Option.{none}
-use Prim.Native.Nat.{ℕ, _+_, _%_, _≤_}
+use Prim.Native.Nat.{ℕ, _+_, _%_, _≤_, _<_}
 use native.Mathlib.Omega.{arith}
+use lib.Dec.{eqb}
 use lib.ListN.{length}
 use Rattle.basics.proofs.Laws.Test.{never}
 use Rattle.refusal.specs.Number.{refusalPlain}
@@ -25,15 +26,16 @@ use Rattle.desk.proofs.Laws.Model.{edit-sends, undo-sends, one-sent, none-sent}
 use Rattle.sequence.specs.declared.Kind.{Kind}
 use Rattle.sequence.specs.declared.Kind.the-variants.{First, Next, Repeat}
 use Rattle.sequence.specs.Sequence.{repeatsIn}
+use Rattle.follower.specs.declared.Held.{Held}
 use Rattle.follower.specs.declared.Follower.{Follower}
 use Rattle.follower.specs.declared.Followed.{Followed}
 use Rattle.follower.specs.declared.Heard.{Heard}
-use Rattle.follower.specs.Follower.{counted, refusalIn, followed, opened}
+use Rattle.follower.specs.Follower.{counted, refusalIn, followed, opened, shownBy}
 use Rattle.follower.proofs.Laws.Count.{counted-none, counted-again}
-use Rattle.follower.proofs.Laws.Follow.{accepted-holds, Arrived, first-kind, next-kind, repeat-kind}
+use Rattle.follower.proofs.Laws.Follow.{accepted-holds, Arrived, first-kind, repeat-kind, before-kind, next-kind}
 use Rattle.promises.specs.Calls.{Opens, Sends, Begins, Follows}
 use Rattle.promises.specs.History.{Turns, edits, undoes, History, opens, turns, sends}
-use Rattle.promises.specs.Line.{Delivers, Fate, unsent, waiting, dropped, delivered, Scene, opening, turned, sent, lost, heard, Line, opens, turns, sends, no-room, drops, delivers, repeats, Agrees}
+use Rattle.promises.specs.Line.{Delivers, Fate, unsent, waiting, dropped, delivered, Scene, opening, turned, sent, lost, heard, Line, opens, turns, sends, no-room, drops, delivers, repeats, repeats-earlier, Agrees}
 use Rattle.promises.proofs.Laws.Arrival.{Arrives, sent-long, sent-narrow, sent-sound, arrives}
 use Rattle.promises.proofs.Laws.Calls.{begins-is, follows-is}
 use Rattle.promises.proofs.Laws.Sent.{sent-as-they-stand}
@@ -41,34 +43,76 @@ use Rattle.promises.proofs.Laws.History.{stands, sent-is, history-bytes
 
 -- ---- what is so on every line
 
--- the packet sent last is number n, counted from 0, with the record that it was sent with
+-- these are the words of packet number n, counted from 0, which was sent with this record
+record Numbered (words bytes : List ℕ) (number : ℕ) : Type 0 where
+  are : words ≡ packetWords true (number % 16) bytes
+  clean : CleanRecord bytes
+  small : Bytes bytes
+
+-- the packet sent last
 record OnLine (s : Scene) : Type 0 where
   number : ℕ
   sends : s .history .sends ≡ number + 1
-  words : s .words ≡ packetWords true (number % 16) (s .bytes)
-  clean : CleanRecord (s .bytes)
-  small : Bytes (s .bytes)
+  packet : Numbered (s .latest .words) (s .latest .bytes) number
 
--- once it was delivered the follower holds its record
-record Delivered (s : Scene) (h : Heard) : Type 0 where
+-- once it was delivered the follower stands at it, and shows the record that came last
+record Delivered (s : Scene) (bytes : List ℕ) (h : Heard) : Type 0 where
   line : OnLine s
   begun : s .begun ≡ true
   level : s .gap ≡ 0
   accepted : refusalIn h ≡ none
-  held : s .follower .rec ≡ s .bytes
+  at : s .follower .held .at ≡ s .latest .bytes
+  shown : shownBy (s .follower) ≡ bytes
 
 abbrev Fared : Scene → Fate → Type 0
 Fared s unsent = Unit {0}
 Fared s waiting = OnLine s
 Fared s dropped = Unit {0}
-Fared s (delivered h) = Delivered s h
+Fared s (delivered bytes h) = Delivered s bytes h
+
+-- the packet sent right before it
+record Earlier (s : Scene) : Type 0 where
+  number : ℕ
+  sends : s .history .sends ≡ number + 2
+  packet : Numbered (s .earlier .words) (s .earlier .bytes) number
+
+-- where that one was delivered: while the latest is on the line the follower stands at it, and once the latest was delivered it is the one before, and the
+-- two are successive
+record Ready (s : Scene) : Type 0 where
+  earlier : Earlier s
+  begun : s .begun ≡ true
+  level : s .gap ≡ 0
+  at : s .follower .held .at ≡ s .earlier .bytes
+
+record Both (s : Scene) (h : Held) : Type 0 where
+  earlier : Earlier s
+  successive : h .successive ≡ true
+  before : h .before ≡ s .earlier .bytes
+
+abbrev ByLatest : Scene → Fate → Type 0
+ByLatest s unsent = Unit {0}
+ByLatest s waiting = Ready s
+ByLatest s dropped = Unit {0}
+ByLatest s (delivered bytes h) = Both s (s .follower .held)
+
+abbrev WhereDelivered : Fate → Type 0 → Type 0
+WhereDelivered unsent A = Unit {0}
+WhereDelivered waiting A = Unit {0}
+WhereDelivered dropped A = Unit {0}
+WhereDelivered (delivered bytes h) A = A
+
+still-delivered : (e : Fate) {A B : Type 0} → (A → B) → WhereDelivered e A → WhereDelivered e B
+still-delivered unsent f x = tt
+still-delivered waiting f x = tt
+still-delivered dropped f x = tt
+still-delivered (delivered bytes h) f x = f x
 
 -- how many packets are on the line
 abbrev onLine : Fate → ℕ
 onLine unsent = 0
 onLine waiting = 1
 onLine dropped = 0
-onLine (delivered h) = 0
+onLine (delivered bytes h) = 0
 
 -- before the first delivery
 record Before (s : Scene) : Type 0 where
@@ -76,21 +120,22 @@ record Before (s : Scene) : Type 0 where
   missed : s .missed ≡ 0
   repeated : s .repeated ≡ 0
 
--- from the first delivery on: the latest one was number `latest`, and the follower knows of `known` missed before it
+-- from the first delivery on: the follower stands at number `position`, and knows of `known` missed before it
 record After (s : Scene) : Type 0 where
-  latest : ℕ
+  position : ℕ
   known : ℕ
   started : s .follower .started ≡ true
   refused : s .follower .refused ≡ 0
-  index : s .follower .ci ≡ latest % 16
-  sends : s .history .sends ≡ latest + 1 + s .gap + onLine (s .fate)
+  index : s .follower .held .ci ≡ position % 16
+  sends : s .history .sends ≡ position + 1 + s .gap + onLine (s .latest .fate)
   counted-missed : s .follower .missed ≡ counted 0 known
   missed : s .missed ≡ known + s .gap
   repeated : s .follower .repeated ≡ counted 0 (s .repeated)
 
 record Known (s : Scene) : Type 0 where
   desk : History (s .desk) (s .history)
-  fared : Fared s (s .fate)
+  fared : Fared s (s .latest .fate)
+  paired : WhereDelivered (s .earlier .fate) (ByLatest s (s .latest .fate))
   before : s .begun ≡ false → Before s
   after : s .begun ≡ true → After s
 
@@ -101,6 +146,7 @@ open-known t f O B =
     record {
       desk = opens O;
       fared = tt;
+      paired = tt;
       before = λ e. record { follower = begins-is f B; missed = refl; repeated = refl };
       after = λ e. never (sym e);
     }
@@ -118,24 +164,35 @@ no-room-history d m old t left H n S = subst (History (t .desk)) (none-sent (len
 
 module _ (s : Scene) (K : Known s) (d : Desk) (m : Model) (H : History d m) (same-sends : m .sends ≡ s .history .sends) where
   turned-line : OnLine s → OnLine (turned s d m)
-  turned-line L = record { number = L .number; sends = same-sends ∙ L .sends; words = L .words; clean = L .clean; small = L .small }
+  turned-line L = record { number = L .number; sends = same-sends ∙ L .sends; packet = L .packet }
 
   turned-fared : (f : Fate) → Fared s f → Fared (turned s d m) f
   turned-fared unsent x = tt
   turned-fared waiting x = turned-line x
   turned-fared dropped x = tt
-  turned-fared (delivered h) x = record { line = turned-line (x .line); begun = x .begun; level = x .level; accepted = x .accepted; held = x .held }
+  turned-fared (delivered bytes h) x =
+      record { line = turned-line (x .line); begun = x .begun; level = x .level; accepted = x .accepted; at = x .at; shown = x .shown }
+
+  turned-earlier : Earlier s → Earlier (turned s d m)
+  turned-earlier E = record { number = E .number; sends = same-sends ∙ E .sends; packet = E .packet }
+
+  turned-paired : (f : Fate) → ByLatest s f → ByLatest (turned s d m) f
+  turned-paired unsent x = tt
+  turned-paired waiting x = record { earlier = turned-earlier (x .earlier); begun = x .begun; level = x .level; at = x .at }
+  turned-paired dropped x = tt
+  turned-paired (delivered bytes h) x = record { earlier = turned-earlier (x .earlier); successive = x .successive; before = x .before }
 
   turned-known : Known (turned s d m)
   turned-known =
       record {
         desk = H;
-        fared = turned-fared (s .fate) (K .fared);
+        fared = turned-fared (s .latest .fate) (K .fared);
+        paired = still-delivered (s .earlier .fate) (turned-paired (s .latest .fate)) (K .paired);
         before = λ e. let B = K .before e in record { follower = B .follower; missed = B .missed; repeated = B .repeated };
         after = λ e.
             let A = K .after e in
             record {
-              latest = A .latest;
+              position = A .position;
               known = A .known;
               started = A .started;
               refused = A .refused;
@@ -153,38 +210,57 @@ none-waits : (f : Fate) → (f ≡ waiting → ⊥) → onLine f ≡ 0
 none-waits unsent n = refl
 none-waits waiting n = absurd (n refl)
 none-waits dropped n = refl
-none-waits (delivered h) n = refl
+none-waits (delivered bytes h) n = refl
 
-module _ (s : Scene) (K : Known s) (free : s .fate ≡ waiting → ⊥) (old : List ℕ) (t : Turn) (left : List ℕ) (n : length old ≡ 262) (S : Sends (s .desk) old t left) where
+module _ (s : Scene) (K : Known s) (free : s .latest .fate ≡ waiting → ⊥) (old : List ℕ) (t : Turn) (left : List ℕ) (n : length old ≡ 262) (S : Sends (s .desk) old t left) where
   abbrev m : Model
   m = s .history
 
-  sent-line : OnLine (sent s (t .desk) left)
+  abbrev next : Scene
+  next = sent s (t .desk) left
+
+  sent-line : OnLine next
   sent-line =
       let stood = stands (s .desk) m (K .desk) in
       record {
         number = m .sends;
         sends = one-sent m;
-        words = sent-is (s .desk) m (K .desk) old t left S n .1;
-        clean = stood .clean .present;
-        small = history-bytes (s .desk) m (K .desk) .present;
+        packet = record {
+          are = sent-is (s .desk) m (K .desk) old t left S n .1;
+          clean = stood .clean .present;
+          small = history-bytes (s .desk) m (K .desk) .present;
+        };
       }
 
-  sent-known : Known (sent s (t .desk) left)
+  -- the follower stands at the packet before, where that was delivered
+  sent-paired : (f : Fate) → Fared s f → WhereDelivered f (Ready next)
+  sent-paired unsent x = tt
+  sent-paired waiting x = tt
+  sent-paired dropped x = tt
+  sent-paired (delivered bytes h) x =
+      record {
+        earlier = record { number = x .line .number; sends = omega (arith, one-sent m, x .line .sends); packet = x .line .packet };
+        begun = x .begun;
+        level = x .level;
+        at = x .at;
+      }
+
+  sent-known : Known next
   sent-known =
       record {
         desk = subst (λ (k : ℕ). History (t .desk) (sendM k m)) n (sends (K .desk) S);
         fared = sent-line;
+        paired = sent-paired (s .latest .fate) (K .fared);
         before = λ e. let B = K .before e in record { follower = B .follower; missed = B .missed; repeated = B .repeated };
         after = λ e.
             let A = K .after e in
             record {
-              latest = A .latest;
+              position = A .position;
               known = A .known;
               started = A .started;
               refused = A .refused;
               index = A .index;
-              sends = let z : onLine (s .fate) ≡ 0 = none-waits (s .fate) free in omega (arith, one-sent m, A .sends, z);
+              sends = let z : onLine (s .latest .fate) ≡ 0 = none-waits (s .latest .fate) free in omega (arith, one-sent m, A .sends, z);
               counted-missed = A .counted-missed;
               missed = A .missed;
               repeated = A .repeated;
@@ -193,7 +269,7 @@ module _ (s : Scene) (K : Known s) (free : s .fate ≡ waiting → ⊥) (old : L
 
 -- ---- a packet that is dropped
 
-module _ (s : Scene) (K : Known s) (w : s .fate ≡ waiting) where
+module _ (s : Scene) (K : Known s) (w : s .latest .fate ≡ waiting) where
   dropped-missed : (b : Bool) (k : ℕ) → s .begun ≡ b → s .missed ≡ k + s .gap → b ≡ true → cond (s .begun) (s .missed + 1) (s .missed) ≡ k + (s .gap + 1)
   dropped-missed b k e x y = rw (e ∙ y) (omega arith)
 
@@ -202,63 +278,69 @@ module _ (s : Scene) (K : Known s) (w : s .fate ≡ waiting) where
       record {
         desk = K .desk;
         fared = tt;
+        paired = still-delivered (s .earlier .fate) (λ x. tt) (K .paired);
         before = λ e. let B = K .before e in record { follower = B .follower; missed = rw e (B .missed); repeated = B .repeated };
         after = λ e.
             let A = K .after e in
             record {
-              latest = A .latest;
+              position = A .position;
               known = A .known;
               started = A .started;
               refused = A .refused;
               index = A .index;
-              sends = let z : onLine (s .fate) ≡ 1 = ap onLine w in omega (arith, A .sends, z);
+              sends = let z : onLine (s .latest .fate) ≡ 1 = ap onLine w in omega (arith, A .sends, z);
               counted-missed = A .counted-missed;
               missed = dropped-missed (s .begun) (A .known) refl (A .missed) e;
               repeated = A .repeated;
             };
       }
 
--- ---- a delivery
+-- ---- a delivery, of the packet sent last or of the one before it
 
-module _ (s : Scene) (K : Known s) (L : OnLine s) (arrived : List ℕ) (D : Delivers (s .words) arrived) (a : Followed) (F : Follows (s .follower) arrived a) where
+module _ (s : Scene) (K : Known s) (L : OnLine s) (words bytes : List ℕ) (number : ℕ) (P : Numbered words bytes number) (arrived : List ℕ) (D : Delivers words arrived)
+    (a : Followed) (F : Follows (s .follower) arrived a) where
   abbrev f : Follower
   f = s .follower
 
-  here : Arrives arrived (L .number % 16) (s .bytes)
-  here = arrives (L .number % 16) (s .bytes) (omega arith) (L .clean) (L .small) arrived (subst (λ (l : List ℕ). Delivers l arrived) (L .words) D)
+  here : Arrives arrived (number % 16) bytes
+  here = arrives (number % 16) bytes (omega arith) (P .clean) (P .small) arrived (subst (λ (l : List ℕ). Delivers l arrived) (P .are) D)
 
   answers : a ≡ followed f arrived
   answers = follows-is f arrived a F
 
-  -- of kind k, with so many missed and repeated before it and by it
-  module _ (k : Kind) (m known repeats : ℕ) (X : Arrived f arrived k m) (whole : f .refused ≡ 0) (em : f .missed ≡ counted 0 known) (er : f .repeated ≡ counted 0 repeats)
-      (all-missed : known + m ≡ s .missed) where
+  -- of kind k, with so many missed and repeated before it and by it, after which the follower stands at the packet sent last
+  module _ (k : Kind) (m o known repeats : ℕ) (then : Held) (X : Arrived f arrived k m o then) (whole : f .refused ≡ 0) (em : f .missed ≡ counted 0 known)
+      (er : f .repeated ≡ counted 0 repeats) (all-missed : known + m ≡ s .missed) (at : then .at ≡ s .latest .bytes) (index : then .ci ≡ L .number % 16) where
     abbrev s′ : Scene
-    s′ = heard s a (repeats + repeatsIn k)
+    s′ = heard s bytes a (repeats + repeatsIn k)
 
-    arrived-line : OnLine s′
-    arrived-line = record { number = L .number; sends = L .sends; words = L .words; clean = L .clean; small = L .small }
-
-    arrived-known : Known s′
-    arrived-known =
+    arrived-known : WhereDelivered (s .earlier .fate) (Both s then) → Known s′
+    arrived-known paired =
         let H = accepted-holds f arrived (here .accepted) in
+        let held : a .follower .held ≡ then = ap (λ (x : Followed). x .follower .held) answers ∙ X .held in
         record {
           desk = K .desk;
           fared = record {
-            line = arrived-line;
+            line = record { number = L .number; sends = L .sends; packet = L .packet };
             begun = refl;
             level = refl;
             accepted = ap (λ (x : Followed). refusalIn (x .heard)) answers ∙ ap refusalIn (X .heard);
-            held = ap (λ (x : Followed). x .follower .rec) answers ∙ H .bytes ∙ here .bytes;
+            at = ap (λ (x : Held). x .at) held ∙ at;
+            shown = ap (λ (x : Followed). shownBy (x .follower)) answers ∙ H .shown ∙ here .bytes;
           };
+          paired = still-delivered (s .earlier .fate) (λ (B : Both s then). record {
+            earlier = record { number = B .earlier .number; sends = B .earlier .sends; packet = B .earlier .packet };
+            successive = ap (λ (x : Held). x .successive) held ∙ B .successive;
+            before = ap (λ (x : Held). x .before) held ∙ B .before;
+          }) paired;
           before = λ e. never e;
           after = λ e.
               record {
-                latest = L .number;
+                position = L .number;
                 known = s .missed;
                 started = ap (λ (x : Followed). x .follower .started) answers ∙ H .started;
                 refused = ap (λ (x : Followed). x .follower .refused) answers ∙ H .refused ∙ whole;
-                index = ap (λ (x : Followed). x .follower .ci) answers ∙ H .index ∙ here .index;
+                index = ap (λ (x : Held). x .ci) held ∙ index;
                 sends = omega (arith, L .sends);
                 counted-missed =
                     ap (λ (x : Followed). x .follower .missed) answers ∙ X .missed ∙ ap (λ (n : ℕ). counted n m) em ∙ counted-again 0 known m ∙ ap (counted 0) all-missed;
@@ -267,46 +349,101 @@ module _ (s : Scene) (K : Known s) (L : OnLine s) (arrived : List ℕ) (D : Deli
               };
         }
 
+-- ---- a new one
+
+module _ (s : Scene) (K : Known s) (w : s .latest .fate ≡ waiting) (arrived : List ℕ) (D : Delivers (s .latest .words) arrived) (a : Followed) (F : Follows (s .follower) arrived a) where
+  abbrev g : Follower
+  g = s .follower
+
+  L : OnLine s
+  L = subst (Fared s) w (K .fared)
+
+  new-here : Arrives arrived (L .number % 16) (s .latest .bytes)
+  new-here = here s K L _ _ (L .number) (L .packet) arrived D a F
+
+  ready : WhereDelivered (s .earlier .fate) (Ready s)
+  ready = subst (λ (x : Fate). WhereDelivered (s .earlier .fate) (ByLatest s x)) w (K .paired)
+
   -- the first one
-  first-known : s .begun ≡ false → Known (heard s a (s .repeated))
+  first-known : s .begun ≡ false → Known (heard s (s .latest .bytes) a (s .repeated))
   unfolding opened
   first-known e =
       let B = K .before e in
-      let fresh-missed : f .missed ≡ counted 0 0 = ap (λ (x : Follower). x .missed) (B .follower) ∙ sym (counted-none 0 (omega arith)) in
-      let fresh-repeated : f .repeated ≡ counted 0 0 = ap (λ (x : Follower). x .repeated) (B .follower) ∙ sym (counted-none 0 (omega arith)) in
-      subst (λ (n : ℕ). Known (heard s a n)) (sym (B .repeated))
-      (arrived-known First 0 0 0 (first-kind f arrived (here .accepted) (ap (λ (x : Follower). x .started) (B .follower))) (ap (λ (x : Follower). x .refused) (B .follower)) fresh-missed fresh-repeated (sym (B .missed)))
+      let fresh-missed : g .missed ≡ counted 0 0 = ap (λ (x : Follower). x .missed) (B .follower) ∙ sym (counted-none 0 (omega arith)) in
+      let fresh-repeated : g .repeated ≡ counted 0 0 = ap (λ (x : Follower). x .repeated) (B .follower) ∙ sym (counted-none 0 (omega arith)) in
+      let X = first-kind g arrived (new-here .accepted) (ap (λ (x : Follower). x .started) (B .follower)) in
+      subst (λ (n : ℕ). Known (heard s (s .latest .bytes) a n)) (sym (B .repeated))
+      (arrived-known s K L _ _ (L .number) (L .packet) arrived D a F First 0 0 0 0 _ X (ap (λ (x : Follower). x .refused) (B .follower)) fresh-missed fresh-repeated (sym (B .missed)) (new-here .bytes) (new-here .index)
+      (still-delivered (s .earlier .fate) (λ (R : Ready s). never (sym (R .begun) ∙ e)) ready))
 
-  -- a later one, after at most fourteen
-  next-known : s .begun ≡ true → s .fate ≡ waiting → s .gap ≤ 14 → Known (heard s a (s .repeated))
-  next-known e w few =
+  -- a later one, after at most thirteen
+  next-known : s .begun ≡ true → s .gap ≤ 13 → Known (heard s (s .latest .bytes) a (s .repeated))
+  next-known e few =
       let A = K .after e in
-      let z : onLine (s .fate) ≡ 1 = ap onLine w in
-      let number : L .number ≡ A .latest + 1 + s .gap = omega (arith, A .sends, L .sends, z) in
-      let step : indexOf arrived ≡ (f .ci + 1 + s .gap) % 16 = here .index ∙ omega (arith, number, A .index) in
+      let z : onLine (s .latest .fate) ≡ 1 = ap onLine w in
+      let number : L .number ≡ A .position + 1 + s .gap = omega (arith, A .sends, L .sends, z) in
+      let step : indexOf arrived ≡ (g .held .ci + 1 + s .gap) % 16 = new-here .index ∙ omega (arith, number, A .index) in
+      let X = next-kind g arrived (new-here .accepted) (A .started) (omega (arith, A .index)) (s .gap) few step in
       let kept : s .repeated + 0 ≡ s .repeated = omega arith in
-      subst (λ (n : ℕ). Known (heard s a n)) kept
-      (arrived-known Next (s .gap) (A .known) (s .repeated) (next-kind f arrived (here .accepted) (A .started) (omega (arith, A .index)) (s .gap) few step) (A .refused) (A .counted-missed) (A .repeated) (sym (A .missed)))
+      subst (λ (n : ℕ). Known (heard s (s .latest .bytes) a n)) kept
+      (arrived-known s K L _ _ (L .number) (L .packet) arrived D a F Next (s .gap) _ (A .known) (s .repeated) _ X (A .refused) (A .counted-missed) (A .repeated) (sym (A .missed)) (new-here .bytes) (new-here .index)
+      (still-delivered (s .earlier .fate) (λ (R : Ready s). record { earlier = R .earlier; successive = ap (λ (n : ℕ). eqb n 0) (R .level); before = R .at }) ready))
 
-  -- one again
-  again-known : (h : Heard) → s .fate ≡ delivered h → Delivered s h → Known (heard s a (s .repeated + 1))
-  again-known h w X =
-      let A = K .after (X .begun) in
-      let z : onLine (s .fate) ≡ 0 = ap onLine w in
-      let number : L .number ≡ A .latest = omega (arith, A .sends, L .sends, z, X .level) in
-      arrived-known Repeat 0 (A .known) (s .repeated)
-      (repeat-kind f arrived (here .accepted) (A .started) (omega (arith, A .index)) (here .index ∙ ap (λ (n : ℕ). n % 16) number ∙ sym (A .index)) (here .bytes ∙ sym (X .held)))
-      (A .refused) (A .counted-missed) (A .repeated) (omega (arith, A .missed, X .level))
+  new-known : (s .begun ≡ true → s .gap ≤ 13) → Known (heard s (s .latest .bytes) a (s .repeated))
+  new-known few = by (s .begun) refl
+    where
+      by : (b : Bool) → s .begun ≡ b → Known (heard s (s .latest .bytes) a (s .repeated))
+      by false e = first-known e
+      by true e = next-known e (few e)
+
+-- ---- one again
+
+module _ (s : Scene) (K : Known s) (bytes : List ℕ) (h : Heard) (w : s .latest .fate ≡ delivered bytes h) where
+  there : Delivered s bytes h
+  there = subst (Fared s) w (K .fared)
+
+  both : WhereDelivered (s .earlier .fate) (Both s (s .follower .held))
+  both = subst (λ (x : Fate). WhereDelivered (s .earlier .fate) (ByLatest s x)) w (K .paired)
+
+  with-earlier : (bytes′ : List ℕ) (h′ : Heard) → s .earlier .fate ≡ delivered bytes′ h′ → Both s (s .follower .held)
+  with-earlier bytes′ h′ w′ = subst (λ (x : Fate). WhereDelivered x (Both s (s .follower .held))) w′ both
+
+  standing : After s
+  standing = K .after (there .begun)
+
+  at-last : standing .position ≡ there .line .number
+  at-last = let z : onLine (s .latest .fate) ≡ 0 = ap onLine w in omega (arith, standing .sends, there .line .sends, z, there .level)
+
+  index-below : s .follower .held .ci < 16
+  index-below = omega (arith, standing .index)
+
+  -- a REPEAT, of either, after which all is as it was
+  module _ (words again : List ℕ) (number : ℕ) (P : Numbered words again number) (arrived : List ℕ) (D : Delivers words arrived) (a : Followed) (F : Follows (s .follower) arrived a)
+      (X : Arrived (s .follower) arrived Repeat 0 0 (s .follower .held)) where
+    repeat-known : Known (heard s again a (s .repeated + 1))
+    repeat-known =
+        arrived-known s K (there .line) words again number P arrived D a F Repeat 0 0 (standing .known) (s .repeated) _ X (standing .refused) (standing .counted-missed) (standing .repeated)
+        (omega (arith, standing .missed, there .level)) (there .at) (standing .index ∙ ap (λ (n : ℕ). n % 16) at-last) both
+
+  -- the packet sent last
+  latest-known : (arrived : List ℕ) → Delivers (s .latest .words) arrived → (a : Followed) → Follows (s .follower) arrived a → Known (heard s (s .latest .bytes) a (s .repeated + 1))
+  latest-known arrived D a F =
+      let l = there .line in
+      let p = here s K l _ _ (l .number) (l .packet) arrived D a F in
+      repeat-known _ _ (l .number) (l .packet) arrived D a F
+      (repeat-kind (s .follower) arrived (p .accepted) (standing .started) index-below (p .index ∙ ap (λ (n : ℕ). n % 16) (sym at-last) ∙ sym (standing .index)) (p .bytes ∙ sym (there .at)))
+
+  -- the packet sent right before it
+  earlier-known : (bytes′ : List ℕ) (h′ : Heard) → s .earlier .fate ≡ delivered bytes′ h′ → (arrived : List ℕ) → Delivers (s .earlier .words) arrived
+      → (a : Followed) → Follows (s .follower) arrived a → Known (heard s (s .earlier .bytes) a (s .repeated + 1))
+  earlier-known bytes′ h′ w′ arrived D a F =
+      let B = with-earlier bytes′ h′ w′ in
+      let E = B .earlier in
+      let p = here s K (there .line) _ _ (E .number) (E .packet) arrived D a F in
+      repeat-known _ _ (E .number) (E .packet) arrived D a F
+      (before-kind (s .follower) arrived (p .accepted) (standing .started) index-below (p .index ∙ omega (arith, standing .index, at-last, there .line .sends, E .sends)) (B .successive) (p .bytes ∙ sym (B .before)))
 
 -- ---- every line
-
-delivered-known : (s : Scene) (K : Known s) (arrived : List ℕ) (a : Followed) → s .fate ≡ waiting → (s .begun ≡ true → s .gap ≤ 14) → Delivers (s .words) arrived
-    → Follows (s .follower) arrived a → Known (heard s a (s .repeated))
-delivered-known s K arrived a w few D F = by (s .begun) refl
-  where
-    by : (b : Bool) → s .begun ≡ b → Known (heard s a (s .repeated))
-    by false e = first-known s K (subst (Fared s) w (K .fared)) arrived D a F e
-    by true e = next-known s K (subst (Fared s) w (K .fared)) arrived D a F e w (few e)
 
 known : (s : Scene) → Line s → Known s
 known s (opens {answer = t} {f = f} O B) = open-known t f O B
@@ -315,48 +452,52 @@ known s (sends {s = s₀} {old = old} {answer = t} {left = left} l free n S) = s
 known s (no-room {s = s₀} {old = old} {answer = t} {left = left} l n S) =
     turned-known s₀ (known s₀ l) (t .desk) (s₀ .history) (no-room-history (s₀ .desk) (s₀ .history) old t left (known s₀ l .desk) n S) refl
 known s (drops {s = s₀} l w) = lost-known s₀ (known s₀ l) w
-known s (delivers {s = s₀} {arrived = arrived} {answer = a} l w few D F) = delivered-known s₀ (known s₀ l) arrived a w few D F
-known s (repeats {s = s₀} {before = h} {arrived = arrived} {answer = a} l w D F) =
-    let X : Delivered s₀ h = subst (Fared s₀) w (known s₀ l .fared) in
-    again-known s₀ (known s₀ l) (X .line) arrived D a F h w X
+known s (delivers {s = s₀} {arrived = arrived} {answer = a} l w few D F) = new-known s₀ (known s₀ l) w arrived D a F few
+known s (repeats {s = s₀} {bytes = bytes} {h = h} {arrived = arrived} {answer = a} l w D F) = latest-known s₀ (known s₀ l) bytes h w arrived D a F
+known s (repeats-earlier {s = s₀} {bytes = bytes} {bytes′ = bytes′} {h = h} {h′ = h′} {arrived = arrived} {answer = a} l w w′ D F) =
+    earlier-known s₀ (known s₀ l) bytes h w bytes′ h′ w′ arrived D a F
 
 -- a send into a buffer of another length is refused, on every line
 pub no-room-refused : (s : Scene) → Line s → (old : List ℕ) (t : Turn) (left : List ℕ) → Sends (s .desk) old t left → (length old ≡ 262 → ⊥)
     → t .checked ≡ Refused (refusalPlain Room)
 no-room-refused s l old t left S n = sent-as-they-stand (s .desk) old t left S .no-room n
 
--- the packet that waits on a line, or was delivered, has 254 protected words of ten bits each, and sound
+-- the packet that waits on a line, and one that may be repeated, has 254 protected words of ten bits each, and sound
 pub record Ordinary (words : List ℕ) : Type 0 where
   pub long : length (protectedOf words) ≡ 254
   pub ten-bits : narrow (protectedOf words) ≡ true
   pub sound : all isSound (protectedOf words) ≡ true
 
-ordinary : (s : Scene) → OnLine s → Ordinary (s .words)
-ordinary s L =
-    let hc : L .number % 16 ≤ 15 = omega arith in
-    rw (L .words)
+ordinary : (words bytes : List ℕ) (number : ℕ) → Numbered words bytes number → Ordinary words
+ordinary words bytes number P =
+    let hc : number % 16 ≤ 15 = omega arith in
+    rw (P .are)
     (record {
-      long = sent-long (L .number % 16) (s .bytes) hc (L .clean) (L .small);
-      ten-bits = sent-narrow (L .number % 16) (s .bytes) hc (L .clean) (L .small);
-      sound = sent-sound (L .number % 16) (s .bytes) hc (L .clean) (L .small);
+      long = sent-long (number % 16) bytes hc (P .clean) (P .small);
+      ten-bits = sent-narrow (number % 16) bytes hc (P .clean) (P .small);
+      sound = sent-sound (number % 16) bytes hc (P .clean) (P .small);
     })
 
-pub waiting-ordinary : (s : Scene) → Line s → s .fate ≡ waiting → Ordinary (s .words)
-waiting-ordinary s l w = ordinary s (subst (Fared s) w (known s l .fared))
+pub waiting-ordinary : (s : Scene) → Line s → s .latest .fate ≡ waiting → Ordinary (s .latest .words)
+waiting-ordinary s l w = let L : OnLine s = subst (Fared s) w (known s l .fared) in ordinary _ _ (L .number) (L .packet)
 
-pub delivered-ordinary : (s : Scene) (h : Heard) → Line s → s .fate ≡ delivered h → Ordinary (s .words)
-delivered-ordinary s h l w = ordinary s (let X : Delivered s h = subst (Fared s) w (known s l .fared) in X .line)
+module _ (s : Scene) (l : Line s) (bytes : List ℕ) (h : Heard) (w : s .latest .fate ≡ delivered bytes h) where
+  pub latest-ordinary : Ordinary (s .latest .words)
+  latest-ordinary = let L = there s (known s l) bytes h w .line in ordinary _ _ (L .number) (L .packet)
 
--- at each delivery: accepted, the record that was sent, and the true counts up to the ceiling
-pub demand-3 : (s : Scene) (h : Heard) → Line s → s .fate ≡ delivered h → Agrees s h
-demand-3 s h l w =
-    let K = known s l in
-    let X : Delivered s h = subst (Fared s) w (K .fared) in
-    let A = K .after (X .begun) in
-    record {
-      accepted = X .accepted;
-      refused = A .refused;
-      held = X .held;
-      missed = A .counted-missed ∙ ap (counted 0) (omega (arith, A .missed, X .level));
-      repeated = A .repeated;
-    }
+  pub earlier-ordinary : (bytes′ : List ℕ) (h′ : Heard) → s .earlier .fate ≡ delivered bytes′ h′ → Ordinary (s .earlier .words)
+  earlier-ordinary bytes′ h′ w′ =
+      let E = with-earlier s (known s l) bytes h w bytes′ h′ w′ .earlier in ordinary _ _ (E .number) (E .packet)
+
+  -- at each delivery: accepted, the record shown is the one that was sent, and the true counts up to the ceiling
+  pub demand-3 : Agrees s bytes h
+  demand-3 =
+      let X = there s (known s l) bytes h w in
+      let A = standing s (known s l) bytes h w in
+      record {
+        accepted = X .accepted;
+        refused = A .refused;
+        shown = X .shown;
+        missed = A .counted-missed ∙ ap (counted 0) (omega (arith, A .missed, X .level));
+        repeated = A .repeated;
+      }

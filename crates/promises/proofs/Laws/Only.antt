@@ -146,6 +146,10 @@ use Rattle.follower.proofs.Follower.open.Kinds as follower-open-types
 use Rattle.follower.proofs.Follower.open.Reads as follower-open-contract
 use Rattle.follower.proofs.Follower.follow.Kinds as follower-follow-types
 use Rattle.follower.proofs.Follower.follow.Reads as follower-follow-contract
+use Rattle.follower.proofs.Follower.shown.Kinds as follower-shown-types
+use Rattle.follower.proofs.Follower.shown.Reads as follower-shown-contract
+use Rattle.follower.proofs.Follower.shown_into.Kinds as follower-shown-into-types
+use Rattle.follower.proofs.Follower.shown_into.Reads as follower-shown-into-contract
 use Rattle.b40.proofs.pack.Kinds as pack-types
 use Rattle.b40.proofs.pack.Reads as pack-contract
 use Rattle.b40.proofs.unpack.Kinds as unpack-types
@@ -204,6 +208,8 @@ use Rattle.capi.proofs.ay_follower_open.Kinds as ay-follower-open-types
 use Rattle.capi.proofs.ay_follower_open.Reads as ay-follower-open-contract
 use Rattle.capi.proofs.ay_follower_follow.Kinds as ay-follower-follow-types
 use Rattle.capi.proofs.ay_follower_follow.Reads as ay-follower-follow-contract
+use Rattle.capi.proofs.ay_follower_shown.Kinds as ay-follower-shown-types
+use Rattle.capi.proofs.ay_follower_shown.Reads as ay-follower-shown-contract
 
 -- ---- refusal
 
@@ -451,6 +457,12 @@ follower-open κs i a b s t p q = p ∙ sym q
 pub follower-follow : OneAnswer 1 follower-follow-types.ps follower-follow-types.r follower-follow-contract.Learnt
 follower-follow κs i a b s t p q = p ∙ sym q
 
+pub follower-shown : OneAnswer 0 follower-shown-types.ps follower-shown-types.r follower-shown-contract.Learnt
+follower-shown κs i a b s t p q = p ∙ sym q
+
+pub follower-shown-into : OneOutcome 1 follower-shown-into-types.ps follower-shown-into-types.r (λ κs s. now (s .1 .0)) follower-shown-into-contract.Learnt
+follower-shown-into κs i a b s t p q = (p .0 ∙ sym (q .0), p .1 ∙ sym (q .1))
+
 -- ---- b40
 
 pub pack : OneOutcome 2 pack-types.ps pack-types.r (λ κs s. now (s .1 .1 .1 .1 .0)) pack-contract.Learnt
@@ -545,3 +557,6 @@ ay-follower-open κs i a b s t p q = p ∙ sym q
 
 pub ay-follower-follow : OneAnswer 1 ay-follower-follow-types.ps ay-follower-follow-types.r ay-follower-follow-contract.Learnt
 ay-follower-follow κs i a b s t p q = p ∙ sym q
+
+pub ay-follower-shown : OneOutcome 1 ay-follower-shown-types.ps ay-follower-shown-types.r (λ κs s. now (s .1 .0)) ay-follower-shown-contract.Learnt
+ay-follower-shown κs i a b s t p q = (p .0 ∙ sym (q .0), p .1 ∙ sym (q .1))

@@ -50,7 +50,7 @@ use Rattle.reading.proofs.Laws.RoundTrip.{written-reads, written-packet}
 use Rattle.reading.proofs.Laws.Whole.{read-clean, index-small, packetAgain, write-read, write-read-same, same-write-read}
 use Rattle.follower.specs.declared.Follower.{Follower}
 use Rattle.follower.specs.declared.Followed.{Followed}
-use Rattle.follower.specs.Follower.{refusalIn as refusalInHeard}
+use Rattle.follower.specs.Follower.{refusalIn as refusalInHeard, shownBy}
 use Rattle.follower.proofs.Laws.Follow.{refusal-heard, accepted-holds}
 use Rattle.promises.specs.Calls.{Follows}
 use Rattle.promises.specs.PacketCalls.{Writes, ReadsPacket, ReadsInto, Repairs}
@@ -141,11 +141,11 @@ module _ (on : Bool) (ci : ℕ) (bytes old words : List ℕ) (W : Writes on ci b
   pub written-read-packet : (a : Reading) → ReadsPacket words a → a ≡ Accepted (record { correction = on; ci = ci; fixed = 0 })
   written-read-packet a R = reads-packet-is words a R ∙ read-accepts words (reads .accepted) ∙ ap Accepted packet
 
-  -- any follower takes it in, and then holds the record
-  pub written-followed : (f : Follower) (a : Followed) → Follows f words a → (refusalInHeard (a .heard) ≡ none) × (a .follower .rec ≡ recordOf bytes)
+  -- any follower takes it in, and then shows the record
+  pub written-followed : (f : Follower) (a : Followed) → Follows f words a → (refusalInHeard (a .heard) ≡ none) × (shownBy (a .follower) ≡ recordOf bytes)
   written-followed f a F = (
     sym (follow-tells f words a F) ∙ reads .accepted,
-    ap (λ (x : Followed). x .follower .rec) (follows-is f words a F) ∙ accepted-holds f words (reads .accepted) .bytes ∙ record-read,
+    ap (λ (x : Followed). shownBy (x .follower)) (follows-is f words a F) ∙ accepted-holds f words (reads .accepted) .shown ∙ record-read,
   )
 
   -- with correction on, the bytes that the protected words carry are a codeword

@@ -41,6 +41,7 @@ use Rattle.steps.specs.declared.Step.{Step}
 use Rattle.steps.specs.Steps.{stepRefusal, oldOf, backRefusal}
 use Rattle.desk.specs.declared.Desk.{Desk}
 use Rattle.desk.specs.Desk.{openRefusal, undoRefusal, sendRefusal}
+use Rattle.follower.specs.Follower.{shownRefusal}
 use Rattle.b40.specs.Packing.{packRefusal}
 use Rattle.b40.specs.Unpacking.{unpackRefusal}
 use Rattle.promises.specs.Places.{isRule, isWord, isReserved, RightPlace, RightIn}
@@ -331,6 +332,10 @@ undo-right d = search checks
 pub send-right : (room : ℕ) → RightIn 0 (sendRefusal room)
 unfolding sendRefusal numberOf
 send-right room = search checks
+
+pub shown-right : (room : ℕ) → RightIn 0 (shownRefusal room)
+unfolding shownRefusal numberOf
+shown-right room = search checks
 
 pub pack-right : (line offset : ℕ) (words : List ℕ) (room : ℕ) → RightIn 0 (packRefusal line offset words room)
 unfolding packRefusal numberOf

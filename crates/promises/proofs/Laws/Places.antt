@@ -39,7 +39,7 @@ use Rattle.follower.specs.declared.Heard.the-variants.{Accepted as Arrived, Ref
 use Rattle.answers.specs.Answers.{answerBy, packetFrom, heardFrom, followedFrom}
 use Rattle.answers.proofs.Laws.Done.{Says, word-says, verdict-says, packet-says, repaired-says, field-says, turn-says, followed-says}
 use Rattle.promises.specs.Places.{RightPlace, RightIn, BitsBeside, PlacesRight, AnswersRight, BitsRight}
-use Rattle.promises.proofs.Laws.Placed.{open-right, check-right, words-right, fill-right, block-right, decode-right, marked-right, place-right, item-right, record-right, written-right, put-right, store-right, repair-right, count-right, write-right, layout-right, read-right, into-right, step-right, back-right, undo-right, send-right, pack-right, unpack-right}
+use Rattle.promises.proofs.Laws.Placed.{open-right, check-right, words-right, fill-right, block-right, decode-right, marked-right, place-right, item-right, record-right, written-right, put-right, store-right, repair-right, count-right, write-right, layout-right, read-right, into-right, step-right, back-right, undo-right, send-right, shown-right, pack-right, unpack-right}
 use Rattle.soundness.proofs.check_word.Kinds as check-word-types
 use Rattle.soundness.proofs.check_word.Reads as check-word-contract
 use Rattle.soundness.proofs.check_words.Kinds as check-words-types
@@ -98,6 +98,8 @@ use Rattle.desk.proofs.Desk.send.Kinds as desk-send-types
 use Rattle.desk.proofs.Desk.send.Reads as desk-send-contract
 use Rattle.follower.proofs.Follower.follow.Kinds as follower-follow-types
 use Rattle.follower.proofs.Follower.follow.Reads as follower-follow-contract
+use Rattle.follower.proofs.Follower.shown_into.Kinds as follower-shown-into-types
+use Rattle.follower.proofs.Follower.shown_into.Reads as follower-shown-into-contract
 use Rattle.b40.proofs.pack.Kinds as pack-types
 use Rattle.b40.proofs.pack.Reads as pack-contract
 use Rattle.b40.proofs.unpack.Kinds as unpack-types
@@ -130,6 +132,8 @@ use Rattle.capi.proofs.ay_desk_send.Kinds as ay-desk-send-types
 use Rattle.capi.proofs.ay_desk_send.Reads as ay-desk-send-contract
 use Rattle.capi.proofs.ay_follower_follow.Kinds as ay-follower-follow-types
 use Rattle.capi.proofs.ay_follower_follow.Reads as ay-follower-follow-contract
+use Rattle.capi.proofs.ay_follower_shown.Kinds as ay-follower-shown-types
+use Rattle.capi.proofs.ay_follower_shown.Reads as ay-follower-shown-contract
 
 -- ---- anc
 
@@ -242,6 +246,9 @@ desk-send κs i a s p = rw (p .0, refusal-in) (send-right _)
 pub follower-follow : PlacesRight 1 follower-follow-types.ps follower-follow-types.r 248 (λ κs a. refusalInHeard (a .heard)) follower-follow-contract.Learnt
 follower-follow κs i a s p = rw (p, refusal-heard) (read-right _)
 
+pub follower-shown-into : PlacesRight 1 follower-shown-into-types.ps follower-shown-into-types.r 0 (λ κs. refusalIn) follower-shown-into-contract.Learnt
+follower-shown-into κs i a s p = rw (p .0, refusal-in) (shown-right _)
+
 -- ---- b40
 
 pub pack : PlacesRight 2 pack-types.ps pack-types.r 0 (λ κs. refusalInWriting) pack-contract.Learnt
@@ -312,6 +319,9 @@ ay-desk-send κs i a s p = rw (p .0) (says-right (turn-says _) (rw refusal-in (s
 
 pub ay-follower-follow : AnswersRight 1 ay-follower-follow-types.ps ay-follower-follow-types.r 248 (λ κs a. a .number) (λ κs a. a .place) ay-follower-follow-contract.Learnt
 ay-follower-follow κs i a s p = rw p (says-right (followed-says _) (rw refusal-heard (read-right _)))
+
+pub ay-follower-shown : AnswersRight 1 ay-follower-shown-types.ps ay-follower-shown-types.r 0 (λ κs a. a .number) (λ κs a. a .place) ay-follower-shown-contract.Learnt
+ay-follower-shown κs i a s p = rw (p .0) (answer-right _ (shown-right _))
 
 -- ---- the bits beside 7
 

@@ -34,7 +34,7 @@ use Rattle.desk.specs.declared.Turn.{Turn}
 use Rattle.desk.specs.Desk.{edited, undoRefusal, undone, sendRefusal, sent, sendLeaves}
 use Rattle.follower.specs.declared.Follower.{Follower}
 use Rattle.follower.specs.declared.Followed.{Followed}
-use Rattle.follower.specs.Follower.{refusedAfter, refusalIn as refusalInHeard}
+use Rattle.follower.specs.Follower.{refusedAfter, shownRefusal, shownLeaves, refusalIn as refusalInHeard}
 use Rattle.follower.proofs.Laws.Follow.{refused-said}
 use Rattle.answers.specs.declared.AyAnswer.{AyAnswer}
 use Rattle.answers.specs.declared.AyPacket.{AyPacket}
@@ -82,6 +82,8 @@ use Rattle.b40.proofs.unpack.Kinds as unpack-types
 use Rattle.b40.proofs.unpack.Reads as unpack-contract
 use Rattle.desk.proofs.Desk.send.Kinds as send-types
 use Rattle.desk.proofs.Desk.send.Reads as send-contract
+use Rattle.follower.proofs.Follower.shown_into.Kinds as shown-into-types
+use Rattle.follower.proofs.Follower.shown_into.Reads as shown-into-contract
 use Rattle.capi.proofs.ay_write_packet.Kinds as ay-write-packet-types
 use Rattle.capi.proofs.ay_write_packet.Reads as ay-write-packet-contract
 use Rattle.capi.proofs.ay_read_packet_into.Kinds as ay-read-packet-into-types
@@ -94,6 +96,8 @@ use Rattle.capi.proofs.ay_unpack.Kinds as ay-unpack-types
 use Rattle.capi.proofs.ay_unpack.Reads as ay-unpack-contract
 use Rattle.capi.proofs.ay_desk_send.Kinds as ay-desk-send-types
 use Rattle.capi.proofs.ay_desk_send.Reads as ay-desk-send-contract
+use Rattle.capi.proofs.ay_follower_shown.Kinds as ay-follower-shown-types
+use Rattle.capi.proofs.ay_follower_shown.Reads as ay-follower-shown-contract
 
 -- ---- the number
 
@@ -145,6 +149,10 @@ store-item κs i a s p (why, e) = p .1 ∙ kept _ why _ _ (checked-said (storeRe
 pub desk-send : RefusedKeeps 1 send-types.ps send-types.r (λ κs a. Tells refusalIn (a .checked)) (λ κs i. now (i .1 .0)) (λ κs s. now (s .1 .0)) send-contract.Learnt
 unfolding sendLeaves sent
 desk-send κs i a s p (why, e) = p .1 ∙ kept _ why _ _ (checked-said (sendRefusal (length (now (i .1 .0)))) (a .checked) why (ap (λ (t : Turn). t .checked) (p .0)) e)
+
+pub follower-shown-into : RefusedKeeps 1 shown-into-types.ps shown-into-types.r (λ κs. Tells refusalIn) (λ κs i. now (i .1 .0)) (λ κs s. now (s .1 .0)) shown-into-contract.Learnt
+unfolding shownLeaves
+follower-shown-into κs i a s p (why, e) = p .1 ∙ kept _ why _ _ (checked-said (shownRefusal (length (now (i .1 .0)))) a why (p .0) e)
 
 pub write-record : RefusedKeeps 2 write-record-types.ps write-record-types.r (λ κs. Tells refusalIn) (λ κs i. now (i .1 .0)) (λ κs s. now (s .1 .0)) write-record-contract.Learnt
 unfolding written
@@ -211,6 +219,10 @@ pub ay-desk-send : RefusedKeeps 1 ay-desk-send-types.ps ay-desk-send-types.r (λ
 unfolding sendLeaves sent
 ay-desk-send κs i a s p z =
     p .1 ∙ kept-for-c _ _ (a .number) _ _ (ap (λ (x : AyTurn). x .number) (p .0) ∙ turn-says _ .number-is) (refusal-in (sendRefusal (length (now (i .1 .0))))) z
+
+pub ay-follower-shown : RefusedKeeps 1 ay-follower-shown-types.ps ay-follower-shown-types.r (λ κs a. NotZero (a .number)) (λ κs i. now (i .1 .0)) (λ κs s. now (s .1 .0)) ay-follower-shown-contract.Learnt
+unfolding shownLeaves
+ay-follower-shown κs i a s p z = p .1 ∙ kept-for-c _ _ (a .number) _ _ (ap (λ (x : AyAnswer). x .number) (p .0)) refl z
 
 -- ---- the desk
 

@@ -2,13 +2,14 @@
 -- Assumes nothing.
 use mathlib.Core.Path.{_≡_, refl, sym, ap, ap₂, _∙_}
 use mathlib.Core.Bool.{Bool, true, false}
-use Prim.Native.Nat.{ℕ, _+_, _-_, _*_, _/_, _%_, _≤_, _<_}
+use mathlib.Core.List.{List}
+use Prim.Native.Nat.{ℕ, suc, _+_, _-_, _*_, _/_, _%_, _≤_, _<_}
 use native.Mathlib.Nat.{mod-lt}
 use native.Mathlib.Omega.{arith}
 use borrow.Author.Tests.{eq-eqb, ne-eqb}
 use lib.Dec.{eqb}
 use mathlib.Core.Logic.{⊎-elim}
-use Rattle.basics.proofs.Laws.Test.{lt-or-le}
+use Rattle.basics.proofs.Laws.Test.{lt-or-le, never}
 use Rattle.gf256.specs.Field.{_⊕_, _⊗_, byBits, double}
 use Rattle.refusal.specs.declared.Wrong.the-variants.{B8, B9, Both}
 use Rattle.anc.specs.Word.{isSound, wordOf, withB9, bit, ones, parityOf as evenParity, total, checksumOf}
@@ -31,8 +32,13 @@ use Rattle.reading.specs.Answer.{packetOf, readingOf}
 use Rattle.items.specs.Items.{items, part}
 use Rattle.items.specs.Item.{rowOf, put, putIn, putItem}
 use Rattle.desk.specs.Desk.{opening}
-use Rattle.sequence.specs.Sequence.{stepOf, kindOf}
-use Rattle.promises.specs.Values.{inverted, Values}
+use Rattle.sequence.specs.declared.Kind.the-variants.{Repeat}
+use Rattle.sequence.specs.Sequence.{stepOf, missedOf}
+use Rattle.sequence.specs.Onsets.{onsetsAfter}
+use Rattle.follower.specs.declared.Held.{Held}
+use Rattle.follower.specs.Follower.{stepTo, arrivedAs, arrivalOf}
+use Rattle.follower.proofs.Laws.Again.{Again, so-again, other-kind}
+use Rattle.promises.specs.Values.{standing, packetAt, arrivalAt, inverted, Values}
 
 -- ---- a word with a bit inverted
 
@@ -106,10 +112,39 @@ module _ (w : ℕ) (s : isSound w ≡ true) where
   both-wrong : soundnessOf (inverted 8 (inverted 9 w)) ≡ Unsound Both
   both-wrong = answers w (inverted 8 (inverted 9 w)) _ _ right twice false false (turned-bit (bit 8 w)) (turned-bit (bit 9 w))
 
+-- ---- from one index to another
+
+module _ (h : Held) (last ci : ℕ) (e : h .ci ≡ last) where
+  step-is : stepTo (standing h) (packetAt ci) ≡ stepOf last ci
+  unfolding stepTo
+  step-is = ap (λ (n : ℕ). stepOf n ci) e
+
+  -- m packets went by unheard, where it is not the one before
+  missed-is : (arrived : List ℕ) (m : ℕ) → stepOf last ci ≡ suc m → (Again (standing h) (packetAt ci) arrived → ⊥) → arrivalAt h ci arrived .missed ≡ m
+  unfolding arrivalOf
+  missed-is arrived m d n = ap₂ missedOf (other-kind (standing h) (packetAt ci) arrived m n (step-is ∙ d) refl) (step-is ∙ d) ∙ omega arith
+
+fifteen-zero : (h : Held) (arrived : List ℕ) → h .ci ≡ 15 → arrivalAt h 0 arrived .missed ≡ 0
+unfolding stepOf
+fifteen-zero h arrived e = missed-is h 15 0 e arrived 0 refl (λ A. omega (arith, A .step, step-is h 15 0 e))
+
+three-two : (h : Held) (arrived : List ℕ) → h .ci ≡ 3 → (h .before ≡ arrived → ⊥) → arrivalAt h 2 arrived .missed ≡ 14
+unfolding stepOf
+three-two h arrived e n = missed-is h 3 2 e arrived 14 refl (λ A. n (A .equal))
+
+three-two-lost : (h : Held) (arrived : List ℕ) → h .ci ≡ 3 → h .successive ≡ false → arrivalAt h 2 arrived .missed ≡ 14
+unfolding stepOf
+three-two-lost h arrived e n = missed-is h 3 2 e arrived 14 refl (λ A. never (sym (A .successive) ∙ n))
+
+three-two-again : (h : Held) → h .ci ≡ 3 → h .successive ≡ true → arrivalAt h 2 (h .before) ≡ record { kind = Repeat; ci = 2; fixed = 0; missed = 0; onsets = 0 }
+unfolding stepOf arrivalOf arrivedAs onsetsAfter
+three-two-again h e u =
+    rw (so-again (standing h) (packetAt 2) (h .before) (record { started = refl; successive = u; step = step-is h 3 2 e; equal = refl }))
+
 -- ---- the table
 
 pub values : Values
-unfolding opening items rowOf put putIn putItem stepOf kindOf packetWords summedWords kind flag headerWord protectedWords soundWords wordOf withB9 bit ones evenParity total checksumOf parityOf remainder next divisorBytes _⊞_ scale _⊗_ byBits double _⊕_ stationRule stationByte soundByte soundRule oneOf pictureRule pictureClean lowHalf timeRule timeByte decimal isSound b8Right b9Right soundnessOf unsoundFrom firstFrom all same narrow hasFlag lowBytes part broken reservedArea reservedRefusal contentRefusal laidOut recordOf correctionOf indexOf protectedOf readWords readBytes summedOf readFixed headRefusal protectedRefusal bodyRefusal readRefusal readRecord packetOf readingOf
+unfolding opening items rowOf put putIn putItem packetWords summedWords kind flag headerWord protectedWords soundWords wordOf withB9 bit ones evenParity total checksumOf parityOf remainder next divisorBytes _⊞_ scale _⊗_ byBits double _⊕_ stationRule stationByte soundByte soundRule oneOf pictureRule pictureClean lowHalf timeRule timeByte decimal isSound b8Right b9Right soundnessOf unsoundFrom firstFrom all same narrow hasFlag lowBytes part broken reservedArea reservedRefusal contentRefusal laidOut recordOf correctionOf indexOf protectedOf readWords readBytes summedOf readFixed headRefusal protectedRefusal bodyRefusal readRefusal readRecord packetOf readingOf
 values = record {
   byte-85 = refl;
   byte-0F = refl;
@@ -132,8 +167,10 @@ values = record {
   second-59 = refl;
   second-5A = refl;
   second-60 = refl;
-  index-15-then-0 = refl;
-  index-3-then-2 = refl;
+  index-15-then-0 = fifteen-zero;
+  index-3-then-2 = three-two;
+  index-3-then-2-lost = three-two-lost;
+  index-3-then-2-again = three-two-again;
   b8-inverted = b8-wrong;
   b9-inverted = b9-wrong;
   both-inverted = both-wrong;
