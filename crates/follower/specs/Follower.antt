@@ -72,8 +72,8 @@ arrivalOf f p arrived =
       onsets = onsetsAfter (f .started && not (beforeAgain f p arrived)) (f .held .at) arrived;
     }
 
--- what is held then, by the kind: FIRST has no record before it; at NEXT the record at the position becomes the one before; REPEAT changes
--- nothing; CONFLICT replaces the record at the position alone
+-- what is held then, by the kind: FIRST has no record before it; at NEXT the record at the position becomes the one before, and the two are
+-- successive exactly where nothing was missed; REPEAT changes nothing; CONFLICT replaces the record at the position alone
 abbrev pub heldBy : Kind → Held → Arrival → List ℕ → Held
 heldBy First h a arrived = record { at = arrived; ci = a .ci; before = replicate 248 0; successive = false }
 heldBy Next h a arrived = record { at = arrived; ci = a .ci; before = h .at; successive = eqb (a .missed) 0 }

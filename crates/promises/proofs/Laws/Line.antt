@@ -43,19 +43,22 @@ use Rattle.promises.proofs.Laws.History.{stands, sent-is, history-bytes
 
 -- ---- what is so on every line
 
--- these are the words of packet number n, counted from 0, which was sent with this record
-record Numbered (words bytes : List ℕ) (number : ℕ) : Type 0 where
+-- these are the words of the packet that was sent so many sends ago, the last one 1 ago, with this record; its number is counted from 0
+record Numbered (m : Model) (words bytes : List ℕ) (ago : ℕ) : Type 0 where
+  number : ℕ
+  sends : m .sends ≡ number + ago
   are : words ≡ packetWords true (number % 16) bytes
   clean : CleanRecord bytes
   small : Bytes bytes
 
--- the packet sent last
-record OnLine (s : Scene) : Type 0 where
-  number : ℕ
-  sends : s .history .sends ≡ number + 1
-  packet : Numbered (s .latest .words) (s .latest .bytes) number
+-- the packet sent last, and the one sent right before it
+abbrev OnLine : Scene → Type 0
+OnLine s = Numbered (s .history) (s .latest .words) (s .latest .bytes) 1
 
--- once it was delivered the follower stands at it, and shows the record that came last
+abbrev Earlier : Scene → Type 0
+Earlier s = Numbered (s .history) (s .earlier .words) (s .earlier .bytes) 2
+
+-- once the last one was delivered the follower stands at it, and shows the record that came last
 record Delivered (s : Scene) (bytes : List ℕ) (h : Heard) : Type 0 where
   line : OnLine s
   begun : s .begun ≡ true
@@ -70,14 +73,8 @@ Fared s waiting = OnLine s
 Fared s dropped = Unit {0}
 Fared s (delivered bytes h) = Delivered s bytes h
 
--- the packet sent right before it
-record Earlier (s : Scene) : Type 0 where
-  number : ℕ
-  sends : s .history .sends ≡ number + 2
-  packet : Numbered (s .earlier .words) (s .earlier .bytes) number
-
--- where that one was delivered: while the latest is on the line the follower stands at it, and once the latest was delivered it is the one before, and the
--- two are successive
+-- where the one before it was delivered: while the last one is on the line the follower stands at that, and once the last one was delivered that is the
+-- record before, and the two are successive
 record Ready (s : Scene) : Type 0 where
   earlier : Earlier s
   begun : s .begun ≡ true
@@ -163,24 +160,21 @@ no-room-history : (d : Desk) (m : Model) (old : List ℕ) (t : Turn) (left : Lis
 no-room-history d m old t left H n S = subst (History (t .desk)) (none-sent (length old) m n) (sends H S)
 
 module _ (s : Scene) (K : Known s) (d : Desk) (m : Model) (H : History d m) (same-sends : m .sends ≡ s .history .sends) where
-  turned-line : OnLine s → OnLine (turned s d m)
-  turned-line L = record { number = L .number; sends = same-sends ∙ L .sends; packet = L .packet }
+  turned-number : {words bytes : List ℕ} {ago : ℕ} → Numbered (s .history) words bytes ago → Numbered m words bytes ago
+  turned-number P = record { number = P .number; sends = same-sends ∙ P .sends; are = P .are; clean = P .clean; small = P .small }
 
   turned-fared : (f : Fate) → Fared s f → Fared (turned s d m) f
   turned-fared unsent x = tt
-  turned-fared waiting x = turned-line x
+  turned-fared waiting x = turned-number x
   turned-fared dropped x = tt
   turned-fared (delivered bytes h) x =
-      record { line = turned-line (x .line); begun = x .begun; level = x .level; accepted = x .accepted; at = x .at; shown = x .shown }
-
-  turned-earlier : Earlier s → Earlier (turned s d m)
-  turned-earlier E = record { number = E .number; sends = same-sends ∙ E .sends; packet = E .packet }
+      record { line = turned-number (x .line); begun = x .begun; level = x .level; accepted = x .accepted; at = x .at; shown = x .shown }
 
   turned-paired : (f : Fate) → ByLatest s f → ByLatest (turned s d m) f
   turned-paired unsent x = tt
-  turned-paired waiting x = record { earlier = turned-earlier (x .earlier); begun = x .begun; level = x .level; at = x .at }
+  turned-paired waiting x = record { earlier = turned-number (x .earlier); begun = x .begun; level = x .level; at = x .at }
   turned-paired dropped x = tt
-  turned-paired (delivered bytes h) x = record { earlier = turned-earlier (x .earlier); successive = x .successive; before = x .before }
+  turned-paired (delivered bytes h) x = record { earlier = turned-number (x .earlier); successive = x .successive; before = x .before }
 
   turned-known : Known (turned s d m)
   turned-known =
@@ -225,11 +219,9 @@ module _ (s : Scene) (K : Known s) (free : s .latest .fate ≡ waiting → ⊥) 
       record {
         number = m .sends;
         sends = one-sent m;
-        packet = record {
-          are = sent-is (s .desk) m (K .desk) old t left S n .1;
-          clean = stood .clean .present;
-          small = history-bytes (s .desk) m (K .desk) .present;
-        };
+        are = sent-is (s .desk) m (K .desk) old t left S n .1;
+        clean = stood .clean .present;
+        small = history-bytes (s .desk) m (K .desk) .present;
       }
 
   -- the follower stands at the packet before, where that was delivered
@@ -238,8 +230,9 @@ module _ (s : Scene) (K : Known s) (free : s .latest .fate ≡ waiting → ⊥) 
   sent-paired waiting x = tt
   sent-paired dropped x = tt
   sent-paired (delivered bytes h) x =
+      let L = x .line in
       record {
-        earlier = record { number = x .line .number; sends = omega (arith, one-sent m, x .line .sends); packet = x .line .packet };
+        earlier = record { number = L .number; sends = omega (arith, one-sent m, L .sends); are = L .are; clean = L .clean; small = L .small };
         begun = x .begun;
         level = x .level;
         at = x .at;
@@ -297,13 +290,13 @@ module _ (s : Scene) (K : Known s) (w : s .latest .fate ≡ waiting) where
 
 -- ---- a delivery, of the packet sent last or of the one before it
 
-module _ (s : Scene) (K : Known s) (L : OnLine s) (words bytes : List ℕ) (number : ℕ) (P : Numbered words bytes number) (arrived : List ℕ) (D : Delivers words arrived)
+module _ (s : Scene) (K : Known s) (L : OnLine s) (words bytes : List ℕ) (ago : ℕ) (P : Numbered (s .history) words bytes ago) (arrived : List ℕ) (D : Delivers words arrived)
     (a : Followed) (F : Follows (s .follower) arrived a) where
   abbrev f : Follower
   f = s .follower
 
-  here : Arrives arrived (number % 16) bytes
-  here = arrives (number % 16) bytes (omega arith) (P .clean) (P .small) arrived (subst (λ (l : List ℕ). Delivers l arrived) (P .are) D)
+  here : Arrives arrived (P .number % 16) bytes
+  here = arrives (P .number % 16) bytes (omega arith) (P .clean) (P .small) arrived (subst (λ (l : List ℕ). Delivers l arrived) (P .are) D)
 
   answers : a ≡ followed f arrived
   answers = follows-is f arrived a F
@@ -321,7 +314,7 @@ module _ (s : Scene) (K : Known s) (L : OnLine s) (words bytes : List ℕ) (numb
         record {
           desk = K .desk;
           fared = record {
-            line = record { number = L .number; sends = L .sends; packet = L .packet };
+            line = L;
             begun = refl;
             level = refl;
             accepted = ap (λ (x : Followed). refusalIn (x .heard)) answers ∙ ap refusalIn (X .heard);
@@ -329,7 +322,7 @@ module _ (s : Scene) (K : Known s) (L : OnLine s) (words bytes : List ℕ) (numb
             shown = ap (λ (x : Followed). shownBy (x .follower)) answers ∙ H .shown ∙ here .bytes;
           };
           paired = still-delivered (s .earlier .fate) (λ (B : Both s then). record {
-            earlier = record { number = B .earlier .number; sends = B .earlier .sends; packet = B .earlier .packet };
+            earlier = B .earlier;
             successive = ap (λ (x : Held). x .successive) held ∙ B .successive;
             before = ap (λ (x : Held). x .before) held ∙ B .before;
           }) paired;
@@ -359,7 +352,7 @@ module _ (s : Scene) (K : Known s) (w : s .latest .fate ≡ waiting) (arrived : 
   L = subst (Fared s) w (K .fared)
 
   new-here : Arrives arrived (L .number % 16) (s .latest .bytes)
-  new-here = here s K L _ _ (L .number) (L .packet) arrived D a F
+  new-here = here s K L _ _ 1 L arrived D a F
 
   ready : WhereDelivered (s .earlier .fate) (Ready s)
   ready = subst (λ (x : Fate). WhereDelivered (s .earlier .fate) (ByLatest s x)) w (K .paired)
@@ -373,7 +366,7 @@ module _ (s : Scene) (K : Known s) (w : s .latest .fate ≡ waiting) (arrived : 
       let fresh-repeated : g .repeated ≡ counted 0 0 = ap (λ (x : Follower). x .repeated) (B .follower) ∙ sym (counted-none 0 (omega arith)) in
       let X = first-kind g arrived (new-here .accepted) (ap (λ (x : Follower). x .started) (B .follower)) in
       subst (λ (n : ℕ). Known (heard s (s .latest .bytes) a n)) (sym (B .repeated))
-      (arrived-known s K L _ _ (L .number) (L .packet) arrived D a F First 0 0 0 0 _ X (ap (λ (x : Follower). x .refused) (B .follower)) fresh-missed fresh-repeated (sym (B .missed)) (new-here .bytes) (new-here .index)
+      (arrived-known s K L _ _ 1 L arrived D a F First 0 0 0 0 _ X (ap (λ (x : Follower). x .refused) (B .follower)) fresh-missed fresh-repeated (sym (B .missed)) (new-here .bytes) (new-here .index)
       (still-delivered (s .earlier .fate) (λ (R : Ready s). never (sym (R .begun) ∙ e)) ready))
 
   -- a later one, after at most thirteen
@@ -386,7 +379,7 @@ module _ (s : Scene) (K : Known s) (w : s .latest .fate ≡ waiting) (arrived : 
       let X = next-kind g arrived (new-here .accepted) (A .started) (omega (arith, A .index)) (s .gap) few step in
       let kept : s .repeated + 0 ≡ s .repeated = omega arith in
       subst (λ (n : ℕ). Known (heard s (s .latest .bytes) a n)) kept
-      (arrived-known s K L _ _ (L .number) (L .packet) arrived D a F Next (s .gap) _ (A .known) (s .repeated) _ X (A .refused) (A .counted-missed) (A .repeated) (sym (A .missed)) (new-here .bytes) (new-here .index)
+      (arrived-known s K L _ _ 1 L arrived D a F Next (s .gap) _ (A .known) (s .repeated) _ X (A .refused) (A .counted-missed) (A .repeated) (sym (A .missed)) (new-here .bytes) (new-here .index)
       (still-delivered (s .earlier .fate) (λ (R : Ready s). record { earlier = R .earlier; successive = ap (λ (n : ℕ). eqb n 0) (R .level); before = R .at }) ready))
 
   new-known : (s .begun ≡ true → s .gap ≤ 13) → Known (heard s (s .latest .bytes) a (s .repeated))
@@ -418,19 +411,19 @@ module _ (s : Scene) (K : Known s) (bytes : List ℕ) (h : Heard) (w : s .latest
   index-below = omega (arith, standing .index)
 
   -- a REPEAT, of either, after which all is as it was
-  module _ (words again : List ℕ) (number : ℕ) (P : Numbered words again number) (arrived : List ℕ) (D : Delivers words arrived) (a : Followed) (F : Follows (s .follower) arrived a)
+  module _ (words again : List ℕ) (ago : ℕ) (P : Numbered (s .history) words again ago) (arrived : List ℕ) (D : Delivers words arrived) (a : Followed) (F : Follows (s .follower) arrived a)
       (X : Arrived (s .follower) arrived Repeat 0 0 (s .follower .held)) where
     repeat-known : Known (heard s again a (s .repeated + 1))
     repeat-known =
-        arrived-known s K (there .line) words again number P arrived D a F Repeat 0 0 (standing .known) (s .repeated) _ X (standing .refused) (standing .counted-missed) (standing .repeated)
+        arrived-known s K (there .line) words again ago P arrived D a F Repeat 0 0 (standing .known) (s .repeated) _ X (standing .refused) (standing .counted-missed) (standing .repeated)
         (omega (arith, standing .missed, there .level)) (there .at) (standing .index ∙ ap (λ (n : ℕ). n % 16) at-last) both
 
   -- the packet sent last
   latest-known : (arrived : List ℕ) → Delivers (s .latest .words) arrived → (a : Followed) → Follows (s .follower) arrived a → Known (heard s (s .latest .bytes) a (s .repeated + 1))
   latest-known arrived D a F =
       let l = there .line in
-      let p = here s K l _ _ (l .number) (l .packet) arrived D a F in
-      repeat-known _ _ (l .number) (l .packet) arrived D a F
+      let p = here s K l _ _ 1 l arrived D a F in
+      repeat-known _ _ 1 l arrived D a F
       (repeat-kind (s .follower) arrived (p .accepted) (standing .started) index-below (p .index ∙ ap (λ (n : ℕ). n % 16) (sym at-last) ∙ sym (standing .index)) (p .bytes ∙ sym (there .at)))
 
   -- the packet sent right before it
@@ -439,8 +432,8 @@ module _ (s : Scene) (K : Known s) (bytes : List ℕ) (h : Heard) (w : s .latest
   earlier-known bytes′ h′ w′ arrived D a F =
       let B = with-earlier bytes′ h′ w′ in
       let E = B .earlier in
-      let p = here s K (there .line) _ _ (E .number) (E .packet) arrived D a F in
-      repeat-known _ _ (E .number) (E .packet) arrived D a F
+      let p = here s K (there .line) _ _ 2 E arrived D a F in
+      repeat-known _ _ 2 E arrived D a F
       (before-kind (s .follower) arrived (p .accepted) (standing .started) index-below (p .index ∙ omega (arith, standing .index, at-last, there .line .sends, E .sends)) (B .successive) (p .bytes ∙ sym (B .before)))
 
 -- ---- every line
@@ -468,8 +461,9 @@ pub record Ordinary (words : List ℕ) : Type 0 where
   pub ten-bits : narrow (protectedOf words) ≡ true
   pub sound : all isSound (protectedOf words) ≡ true
 
-ordinary : (words bytes : List ℕ) (number : ℕ) → Numbered words bytes number → Ordinary words
-ordinary words bytes number P =
+ordinary : (m : Model) (words bytes : List ℕ) (ago : ℕ) → Numbered m words bytes ago → Ordinary words
+ordinary m words bytes ago P =
+    let number = P .number in
     let hc : number % 16 ≤ 15 = omega arith in
     rw (P .are)
     (record {
@@ -479,15 +473,14 @@ ordinary words bytes number P =
     })
 
 pub waiting-ordinary : (s : Scene) → Line s → s .latest .fate ≡ waiting → Ordinary (s .latest .words)
-waiting-ordinary s l w = let L : OnLine s = subst (Fared s) w (known s l .fared) in ordinary _ _ (L .number) (L .packet)
+waiting-ordinary s l w = ordinary _ _ _ 1 (subst (Fared s) w (known s l .fared))
 
 module _ (s : Scene) (l : Line s) (bytes : List ℕ) (h : Heard) (w : s .latest .fate ≡ delivered bytes h) where
   pub latest-ordinary : Ordinary (s .latest .words)
-  latest-ordinary = let L = there s (known s l) bytes h w .line in ordinary _ _ (L .number) (L .packet)
+  latest-ordinary = ordinary _ _ _ 1 (there s (known s l) bytes h w .line)
 
   pub earlier-ordinary : (bytes′ : List ℕ) (h′ : Heard) → s .earlier .fate ≡ delivered bytes′ h′ → Ordinary (s .earlier .words)
-  earlier-ordinary bytes′ h′ w′ =
-      let E = with-earlier s (known s l) bytes h w bytes′ h′ w′ .earlier in ordinary _ _ (E .number) (E .packet)
+  earlier-ordinary bytes′ h′ w′ = ordinary _ _ _ 2 (with-earlier s (known s l) bytes h w bytes′ h′ w′ .earlier)
 
   -- at each delivery: accepted, the record shown is the one that was sent, and the true counts up to the ceiling
   pub demand-3 : Agrees s bytes h
