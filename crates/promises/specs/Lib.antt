@@ -14,3 +14,4 @@ pub mod History
 pub mod Sent
 pub mod Unbroken
 pub mod Line
+pub mod Shown

@@ -57,6 +57,7 @@ pub record Scene : Type 0 where
   pub missed : ℕ
   pub repeated : ℕ
 
+-- no packet was sent
 abbrev pub nothing : Sent
 nothing = record { bytes = []; words = []; fate = unsent }
 
@@ -140,7 +141,7 @@ heard s bytes a repeats =
     }
 
 -- Every line: packets are sent one after the other; each is dropped, or delivered after at most thirteen that were dropped in a row since
--- the delivery of the one before it. Once it was delivered, it may be delivered again, and so may the packet sent right before it where that was
+-- the delivery before. Once it was delivered, it may be delivered again, and so may the packet sent right before it where that was
 -- delivered too, in any mixture and any number of times, before the next one is sent. A send into a buffer of other than 262 words may be tried at any
 -- time, also while a packet is on the line: it is refused, and no more than the desk is handed back.
 pub data Line : Scene → Type 0 where

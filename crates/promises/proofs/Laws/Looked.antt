@@ -7,28 +7,23 @@ use mathlib.Core.Option.{none}
 use Prim.Native.Nat.{ℕ}
 use borrow.Author.Tests.{eq-eqb}
 use lib.ListN.{length}
-use Rattle.refusal.specs.declared.Checked.{Checked}
-use Rattle.refusal.specs.declared.Checked.the-variants.{Passed}
 use Rattle.reading.specs.Reading.{readRecord}
 use Rattle.follower.specs.declared.Follower.{Follower}
 use Rattle.follower.specs.declared.Followed.{Followed}
 use Rattle.follower.specs.declared.Heard.{Heard}
 use Rattle.follower.specs.Follower.{refusalIn, shownBy, shownRefusal, shownLeaves}
 use Rattle.follower.proofs.Laws.Follow.{accepted-holds}
-use Rattle.promises.specs.Calls.{Follows, Looks, LooksInto}
+use Rattle.promises.specs.Calls.{Follows}
 use Rattle.promises.specs.Line.{Scene, Line, delivered}
+use Rattle.promises.specs.Shown.{Shown}
 use Rattle.promises.proofs.Laws.Calls.{follows-is, looks-is, looks-into-is, looks-into-leaves}
 use Rattle.promises.proofs.Laws.Packets.{follow-tells}
 use Rattle.promises.proofs.Laws.Line.{demand-3}
 
--- what the two calls give, where this record is shown
-pub record Shown (f : Follower) (rec : List ℕ) : Type 0 where
-  pub looks : (r : List ℕ) → Looks f r → r ≡ rec
-  pub looks-into : (old : List ℕ) (a : Checked) (left : List ℕ) → LooksInto f old a left → length old ≡ 248 → (a ≡ Passed) × (left ≡ rec)
-
-shown : (f : Follower) (rec : List ℕ) → shownBy f ≡ rec → Shown f rec
+-- what the calls answer and leave is the definition's
+shown : (f : Follower) (bytes : List ℕ) → shownBy f ≡ bytes → Shown f bytes
 unfolding shownRefusal shownLeaves
-shown f rec e =
+shown f bytes e =
     record {
       looks = λ r S. looks-is f r S ∙ e;
       looks-into = λ old a left S n. (
