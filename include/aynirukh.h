@@ -1,5 +1,4 @@
-/* The calls of Aynirukh for C99: the control data packet of ARIB STD-B39, its record, the sender's desk and the receiver's follower; and the colour
- * frame packet.
+/* The calls of Aynirukh for C99: the control data packet of ARIB STD-B39, its record, the sender's desk and the receiver's follower.
  *
  * Each call is proved to give the answer that its contract in crates/capi/src/lib.rt names, for every input that follows three rules,
  * which are the caller's to keep and which no call can test:
@@ -11,18 +10,18 @@
  * comes back.
  *
  * number is 0 where the call is done, else the refusal's number, and place says where (the first byte of the item for 11 to 14, the data byte
- * whose word it is for 7, or the user word of a colour frame packet, the reserved byte for 15, else 0). Beside 7 stand the wrong bits of that word. A refused call leaves its buffers as they
+ * whose word it is for 7, the reserved byte for 15, else 0). Beside 7 stand the wrong bits of that word. A refused call leaves its buffers as they
  * were. The desk that it hands back is the one that was handed in, or for a refused opening the one that is opened with correction on; the follower
  * has one more refusal counted and is otherwise the one that was handed in; what else stands beside number, place and bits is 0.
  *
  *    No.  given when
- *     1   not 262 words, or not the 10 of a colour frame packet
+ *     1   not 262 words
  *     2   a word over 1,023
  *     3   the packet does not begin 0x000, 0x3FF, 0x3FF
- *     4   DID is not 0x25F, or SDID is not 0x1FE; of a colour frame packet, 0x2CF
- *     5   the count word is not 0x2FF; of a colour frame packet, 0x203
+ *     4   DID is not 0x25F, or SDID is not 0x1FE
+ *     5   the count word is not 0x2FF
  *     6   the header is not sound, or its b6 to b4 are not zero
- *     7   correction off: a data word is not sound; the place is that of the first one, 1 to 248; a user word of a colour frame packet, 1 to 3
+ *     7   correction off: a data word is not sound; the place is that of the first one, 1 to 248
  *     8   correction off: one of the last six words is not 0x200
  *     9   correction on: no codeword, by the words that are not sound or within three bytes; see ay_repair
  *    10   the checksum word is not that of the words as they are read
@@ -39,9 +38,6 @@
  *    25   a field of other than 328 bytes
  *    26   a field's first six bits are not zero, its line is not 1 to 1,125, or its offset is over 2,199
  *    27   an index CI over 15
- *    32   a colour frame packet: the encoding history is over 8
- *    33   the colour field is over 8, or it is 5 to 8 with another history than 6 and 7
- *    34   the third user word is not 0x200
  *    41   a desk that would send with correction off is asked for
  */
 #ifndef AYNIRUKH_H
@@ -59,7 +55,6 @@ extern "C" {
 #define AY_PROTECTED_WORDS 254
 #define AY_RECORD_BYTES 248
 #define AY_FIELD_BYTES 328
-#define AY_COLOUR_WORDS 10
 #define AY_HISTORY 32
 #define AY_STEP_BYTES 141
 #define AY_PRIVATE_ITEM 13
@@ -90,9 +85,6 @@ enum {
     AY_FIELD_LENGTH = 25,
     AY_FIELD_HEAD = 26,
     AY_INDEX = 27,
-    AY_COLOUR_HISTORY = 32,
-    AY_COLOUR_FIELD = 33,
-    AY_THIRD_WORD = 34,
     AY_OFF_RETIRED = 41
 };
 
@@ -101,19 +93,6 @@ enum { AY_NO_BIT = 0, AY_B8 = 1, AY_B9 = 2, AY_BOTH_BITS = 3 };
 
 /* The kinds of an accepted packet; AY_NONE where it is refused. */
 enum { AY_NONE = 0, AY_FIRST = 1, AY_NEXT = 2, AY_REPEAT = 3, AY_CONFLICT = 4 };
-
-/* The encoding histories of a colour frame packet. Its colour field is 0, no information, or 1 to 8, of which 5 to 8 go with PAL and PAL-M alone. */
-enum {
-    AY_NO_HISTORY = 0,
-    AY_RGB = 1,
-    AY_YCBCR = 2,
-    AY_YUV = 3,
-    AY_MONOCHROME = 4,
-    AY_NTSC = 5,
-    AY_PAL = 6,
-    AY_PAL_M = 7,
-    AY_SECAM = 8
-};
 
 /* Done or refused. */
 typedef struct {
@@ -145,15 +124,6 @@ typedef struct {
     uint8_t ci;
     uint8_t fixed;
 } AyPacket;
-
-/* The accepted colour frame packet: its encoding history and its colour field. With 7, which bits of the word at the place are wrong, else AY_NO_BIT. */
-typedef struct {
-    uint8_t number;
-    uint8_t place;
-    uint8_t bits;
-    uint8_t history;
-    uint8_t field;
-} AyColour;
 
 /* How many words' ten bits changed. */
 typedef struct {
@@ -262,14 +232,6 @@ AyVerdict ay_check_codeword(const uint8_t *block, size_t block_len);
 
 /* Says what 248 bytes are refused for as a record. Refuses 21, 15, 11 to 14. */
 AyAnswer ay_record_refusal(const uint8_t *bytes, size_t bytes_len);
-
-/* ---- colour frame packet */
-
-/* Writes the 10 words of an encoding history and a colour field. Refuses 32, 33, 23. */
-AyAnswer ay_write_colour(uint8_t history, uint8_t field, uint16_t *out, size_t out_len);
-
-/* Reads 10 words: encoding history and colour field. Refuses 1 to 5, 7, 10, 32 to 34. */
-AyColour ay_read_colour(const uint16_t *words, size_t words_len);
 
 /* ---- field */
 

@@ -4,8 +4,6 @@
  *     takes; and the check of a codeword must say yes exactly where our six sums are 0 and libfec finds nothing to change;
  *   - marked deliveries, held in the same way: every number of marks from none to eight with every number of silent changes from none to four; marks
  *     over bytes that are mostly right; and words between two codewords that are seven bytes apart, where one rule ends and the other begins;
- *   - colour frame packets: those of every history with every colour field, and of other bytes, as GStreamer's encoder makes them: what is written must be
- *     the same words, and what is read of them, and of words changed in any way, as the checks here have it, one after the other;
  *   - packets: the 262 words of random records must be those of GStreamer's encoder, and must read back; and what that encoder makes of bytes with
  *     counters in the reserved area must be refused, at the first of them, and be what a desk made by hand with those bytes sends;
  *   - turns at a desk, which opens with correction on only: edits of the items that may hold anything, the private bytes among them, undos and sends,
@@ -26,7 +24,7 @@
 
 #include "../include/aynirukh.h"
 
-enum { DATA = 248, BLOCK = 254, COLOURS = 1000 };
+enum { DATA = 248, BLOCK = 254 };
 
 static uint64_t state = 0x9E3779B97F4A7C15u;
 static uint32_t next(void)
@@ -398,14 +396,21 @@ static int flag_at(const uint8_t *line, int step)
     return -1;
 }
 
-/* the count + 7 words that GStreamer's encoder makes of so many user bytes */
-static void encoded(uint16_t *words, uint8_t did, uint8_t sdid, const uint8_t *user, int count, long n)
+/* the packet that GStreamer's encoder makes of 248 bytes, with libfec's parity */
+static void foreign(uint16_t words[AY_PACKET_WORDS], const uint8_t record[DATA], int on, int ci, long n)
 {
     static guint8 line[1920 * 2 * 4];
+    uint8_t user[255];
     GstVideoVBIEncoder *encoder = gst_video_vbi_encoder_new(GST_VIDEO_FORMAT_v210, 1920);
     if (!encoder)
         fail("GStreamer gives no encoder, which", n);
-    if (!gst_video_vbi_encoder_add_ancillary(encoder, FALSE, did, sdid, user, (guint)count))
+    user[0] = (uint8_t)(on * 0x80 + ci);
+    memcpy(user + 1, record, DATA);
+    if (on)
+        encode_rs_char(rs, user + 1, user + 1 + DATA);
+    else
+        memset(user + 1 + DATA, 0, 6);
+    if (!gst_video_vbi_encoder_add_ancillary(encoder, FALSE, 0x5F, 0xFE, user, 255))
         fail("GStreamer takes no packet", n);
     gst_video_vbi_encoder_write_line(encoder, line);
     /* the packet lies in every second sample, or in each */
@@ -414,116 +419,9 @@ static void encoded(uint16_t *words, uint8_t did, uint8_t sdid, const uint8_t *u
         at = flag_at(line, step = 1);
     if (at < 0)
         fail("GStreamer's line has no packet; it", n);
-    for (int i = 0; i < count + 7; i++)
+    for (int i = 0; i < AY_PACKET_WORDS; i++)
         words[i] = (uint16_t)sample(line, at + step * i);
     gst_video_vbi_encoder_free(encoder);
-}
-
-/* of 248 bytes, with libfec's parity */
-static void foreign(uint16_t words[AY_PACKET_WORDS], const uint8_t record[DATA], int on, int ci, long n)
-{
-    uint8_t user[255];
-    user[0] = (uint8_t)(on * 0x80 + ci);
-    memcpy(user + 1, record, DATA);
-    if (on)
-        encode_rs_char(rs, user + 1, user + 1 + DATA);
-    else
-        memset(user + 1 + DATA, 0, 6);
-    encoded(words, 0x5F, 0xFE, user, 255, n);
-}
-
-/* ---- colour frame packets */
-
-/* what a history and a colour field are refused for, here */
-static int colour_refused(int history, int field)
-{
-    if (history > 8)
-        return AY_COLOUR_HISTORY;
-    return field > 8 || (field >= 5 && history != 6 && history != 7) ? AY_COLOUR_FIELD : AY_DONE;
-}
-
-/* and ten words, each check in its turn */
-static AyColour colour_read(const uint16_t *words)
-{
-    const uint16_t front[6] = { 0x000, 0x3FF, 0x3FF, 0x25F, 0x2CF, 0x203 };
-    AyColour c = { 0 };
-    unsigned sum = 0;
-    for (int i = 0; i < AY_COLOUR_WORDS; i++)
-        if (words[i] > 0x3FF)
-            c.number = AY_WIDE;
-    if (!c.number && memcmp(words, front, 3 * sizeof *words))
-        c.number = AY_FLAG;
-    if (!c.number && (words[3] != front[3] || words[4] != front[4]))
-        c.number = AY_KIND;
-    if (!c.number && words[5] != front[5])
-        c.number = AY_COUNT;
-    for (int i = 1; i <= 3 && !c.number; i++)
-        if ((c.bits = (uint8_t)wrong_bits(words[5 + i]))) {
-            c.number = AY_PARITY;
-            c.place = (uint8_t)i;
-        }
-    for (int i = 3; i < 9; i++)
-        sum += words[i] & 0x1FF;
-    sum &= 0x1FF;
-    if (!c.number && words[9] != (sum | (~sum << 1 & 0x200)))
-        c.number = AY_CHECKSUM;
-    if (!c.number)
-        c.number = (uint8_t)colour_refused(words[6] & 0xFF, words[7] & 0xFF);
-    if (!c.number && words[8] != 0x200)
-        c.number = AY_THIRD_WORD;
-    if (!c.number) {
-        c.history = (uint8_t)(words[6] & 0xFF);
-        c.field = (uint8_t)(words[7] & 0xFF);
-    }
-    return c;
-}
-
-static long colours[256], colours_equal;
-
-static void colour_agrees(const uint16_t *words, long n)
-{
-    AyColour ours = ay_read_colour(words, AY_COLOUR_WORDS), here = colour_read(words);
-    if (ours.number != here.number || ours.place != here.place || ours.bits != here.bits || ours.history != here.history || ours.field != here.field)
-        fail("reading a colour frame packet", n);
-    colours[here.number]++;
-}
-
-/* the 81 pairs of a history and a colour field, then any two bytes; now and then with a third word that is not 0x200 */
-static void colour(long n)
-{
-    uint8_t user[3] = { (uint8_t)(n / 9 % 9), (uint8_t)(n % 9), 0 };
-    uint16_t theirs[AY_COLOUR_WORDS], ours[AY_COLOUR_WORDS + 1], as_it_was[AY_COLOUR_WORDS + 1];
-    if (n / 81 % 3 == 2) {
-        user[0] = (uint8_t)(next() % 12);
-        user[1] = (uint8_t)next();
-    }
-    if (n % 7 == 6)
-        user[2] = (uint8_t)next();
-    encoded(theirs, 0x5F, 0xCF, user, 3, n);
-    memset(ours, 0xA5, sizeof ours);
-    memcpy(as_it_was, ours, sizeof ours);
-    int refused = colour_refused(user[0], user[1]);
-    if (ay_write_colour(user[0], user[1], ours, AY_COLOUR_WORDS + 1).number != (refused ? refused : AY_ROOM) || memcmp(ours, as_it_was, sizeof ours))
-        fail("writing into eleven words", n);
-    AyAnswer wrote = ay_write_colour(user[0], user[1], ours, AY_COLOUR_WORDS);
-    if (wrote.number != refused || wrote.place || (refused && memcmp(ours, as_it_was, sizeof ours)))
-        fail("writing a colour frame packet", n);
-    if (!refused && !user[2]) {
-        if (memcmp(ours, theirs, sizeof theirs))
-            fail("a colour word of GStreamer's", n);
-        colours_equal++;
-    }
-    colour_agrees(theirs, n);
-    for (int i = 0; i < AY_COLOUR_WORDS; i++) {
-        uint16_t changed[AY_COLOUR_WORDS];
-        memcpy(changed, theirs, sizeof theirs);
-        changed[i] ^= (uint16_t)(1u << next() % 11 | 1u << next() % 11);
-        if (n % 2)
-            changed[9] = ay_checksum(changed + 3, 6);
-        colour_agrees(changed, n);
-    }
-    if (ay_read_colour(theirs, AY_COLOUR_WORDS - 1).number != AY_LENGTH)
-        fail("nine words", n);
 }
 
 static void packet(long n)
@@ -790,12 +688,6 @@ int main(int argc, char **argv)
         if (w.place)
             fail("the place of a word", word);
     }
-    long made = 0;
-    while (colours_equal < COLOURS)
-        colour(made++);
-    printf("compare: %ld colour frame packets, and each of their words changed: %ld read, refused %ld with 2, %ld with 3, %ld with 4, %ld with 5, %ld with 7, "
-           "%ld with 10, %ld with 32, %ld with 33, %ld with 34\n", made, colours[0], colours[2], colours[3], colours[4], colours[5], colours[7],
-           colours[10], colours[32], colours[33], colours[34]);
     for (long n = 0; n < packets; n++)
         unsound(n);
     for (long n = 0; n < packets; n++) {
@@ -810,8 +702,8 @@ int main(int argc, char **argv)
         follow_turn(n);
     printf("compare: at a follower %ld FIRST, %ld NEXT, %ld REPEAT, %ld of them of the record before, %ld CONFLICT, %lu refused\n", kinds[AY_FIRST],
            kinds[AY_NEXT], kinds[AY_REPEAT], frames, kinds[AY_CONFLICT], (unsigned long)kept.refused);
-    printf("compare: %ld deliveries and %ld marked ones equal to libfec and to our check, %ld packets and %d colour frame packets equal to GStreamer's, 65536 words and %ld "
+    printf("compare: %ld deliveries and %ld marked ones equal to libfec and to our check, %ld packets equal to GStreamer's, 65536 words and %ld "
            "packets with unsound words and %ld with counters as counted, %ld turns at a desk as our history has them, %ld packets at a follower as at "
-           "ours\n", deliveries, marks, packets, COLOURS, packets, packets, packets, packets);
+           "ours\n", deliveries, marks, packets, packets, packets, packets, packets);
     return 0;
 }

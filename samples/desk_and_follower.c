@@ -1,4 +1,4 @@
-/* A desk sends a packet, three of its words are damaged, and a follower reads it. Beside it a colour frame packet is made and read.
+/* A desk sends a packet, three of its words are damaged, and a follower reads it.
  *
  *   rt staticlib capi
  *   cc -std=c99 samples/desk_and_follower.c target/staticlib/libcapi.a -o DIR/desk_and_follower
@@ -13,7 +13,6 @@
 typedef char word_is_3_bytes[sizeof(AyWord) == 3 ? 1 : -1];
 typedef char verdict_is_3_bytes[sizeof(AyVerdict) == 3 ? 1 : -1];
 typedef char packet_is_6_bytes[sizeof(AyPacket) == 6 ? 1 : -1];
-typedef char colour_is_5_bytes[sizeof(AyColour) == 5 ? 1 : -1];
 typedef char step_is_142_bytes[sizeof(AyStep) == 142 ? 1 : -1];
 typedef char desk_is_4794_bytes[sizeof(AyDesk) == 4794 ? 1 : -1];
 typedef char turn_is_4796_bytes[sizeof(AyTurn) == 4796 ? 1 : -1];
@@ -328,31 +327,6 @@ static void fields(const uint16_t *sent)
     expect("number of a short field", ay_unpack(field, AY_FIELD_BYTES - 1, back, AY_PACKET_WORDS).number, AY_FIELD_LENGTH);
 }
 
-/* A colour frame packet is made of PAL and its colour field 5, and read; a field that NTSC has not is refused, and so is a user word with b9 wrong. */
-static void colours(void)
-{
-    const uint16_t made[AY_COLOUR_WORDS] = { 0x000, 0x3FF, 0x3FF, 0x25F, 0x2CF, 0x203, 0x206, 0x205, 0x200, 0x13C };
-    uint16_t words[AY_COLOUR_WORDS];
-    AyAnswer answer = ay_write_colour(AY_PAL, 5, words, AY_COLOUR_WORDS);
-    expect("number of writing PAL and 5", answer.number, AY_DONE);
-    expect_bytes("the words of PAL and 5", words, made, sizeof(words));
-    answer = ay_write_colour(AY_NTSC, 5, words, AY_COLOUR_WORDS);
-    expect("number of writing NTSC and 5", answer.number, AY_COLOUR_FIELD);
-    expect("place of writing NTSC and 5", answer.place, 0);
-    expect_bytes("the words after that refusal", words, made, sizeof(words));
-    AyColour colour = ay_read_colour(words, AY_COLOUR_WORDS);
-    printf("colour history %d field %d\n", colour.history, colour.field);
-    expect("number of reading PAL and 5", colour.number, AY_DONE);
-    expect("history as read", colour.history, AY_PAL);
-    expect("colour field as read", colour.field, 5);
-    words[7] ^= 0x200;
-    colour = ay_read_colour(words, AY_COLOUR_WORDS);
-    expect("number of an unsound user word", colour.number, AY_PARITY);
-    expect("place of an unsound user word", colour.place, 2);
-    expect("bits of an unsound user word", colour.bits, AY_B9);
-    expect("history beside a refusal", colour.history, 0);
-}
-
 int main(void)
 {
     uint16_t sent[AY_PACKET_WORDS], damaged[AY_PACKET_WORDS];
@@ -376,6 +350,5 @@ int main(void)
     fields(sent);
     follows(turn.desk, damaged);
     frame_again(turn.desk);
-    colours();
     return differences == 0 ? 0 : 1;
 }

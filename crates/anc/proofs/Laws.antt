@@ -1,6 +1,5 @@
--- Laws of words, of checksums and of packets of any kind, for this crate's proofs and those of the crates above it.
+-- Laws of words and checksums, for this crate's proofs and those of the crates above it.
 pub mod Bits
 pub mod Word
 pub mod Words
 pub mod Checksum
-pub mod Packet

@@ -1,11 +1,10 @@
-// Ten-bit words, as ancillary packets of any kind carry them, the checksum of a run of them, and what packets of every kind have in common.
+// Ten-bit words, as ancillary packets of any kind carry them, and the checksum of a run of them.
 ghost use Rattle.std.specs.Prelude.{◌≡◌, ◌<◌, length};
 ghost use Rattle.refusal.specs.Checked.{checked_of};
 ghost use Rattle.anc.specs.Word.{parity_of, with_b9, word_of, checksum_of};
 ghost use Rattle.anc.specs.Words.{has_flag, narrow, low_bytes, sound_words, fill_refusal, fill_leaves};
-ghost use Rattle.anc.specs.Packet.{front_refusal, made_refusal, made_leaves};
 
-use refusal::{Checked, Reason, then};
+use refusal::{Checked, Reason};
 
 // The even parity of a byte: each half is folded onto the other until one bit is left.
 fn parity(byte: u8) -> u8
@@ -99,44 +98,5 @@ pub fn sound_words(bytes: &[u8], out: &mut [u16]) -> Checked
         out[i] = word_of(bytes[i]);
         i += 1;
     }
-    Checked::Passed
-}
-
-// What a packet of a kind, with so many user words, is refused for before they are looked at.
-pub fn front_refusal(did: u16, sdid: u16, count: u8, words: &[u16]) -> Checked
-    ensures { result ≡ checked_of (front_refusal did sdid count words.now) }
-{
-    if words.len() != 7 + count as usize {
-        return Checked::Refused(refusal::plain(Reason::Length));
-    }
-    let is_kind = (words[3] == did) & (words[4] == sdid);
-    let is_count = words[5] == word_of(count);
-    let length = Checked::Passed;
-    let wide = then(length, narrow(words), Reason::Wide, 0);
-    let flag = then(wide, has_flag(words), Reason::Flag, 0);
-    let kind = then(flag, is_kind, Reason::Kind, 0);
-    then(kind, is_count, Reason::Count, 0)
-}
-
-// Makes a packet of a kind around the user words that stand in `out` from its seventh word to the last but one. Room for fewer than 7 words or for
-// more than 262 is refused, and stays as it was. The checksum comes last, over the words that stand there by then.
-pub fn make_packet(did: u16, sdid: u16, out: &mut [u16]) -> Checked
-    ensures { (result ≡ checked_of (made_refusal (length out.old))) × (out.new ≡ made_leaves did sdid out.old) }
-{
-    if out.len() < 7 {
-        return Checked::Refused(refusal::plain(Reason::Room));
-    }
-    if out.len() > 262 {
-        return Checked::Refused(refusal::plain(Reason::Room));
-    }
-    let last = out.len() - 1;
-    out[0] = 0x000;
-    out[1] = 0x3FF;
-    out[2] = 0x3FF;
-    out[3] = did;
-    out[4] = sdid;
-    out[5] = word_of((last - 6) as u8);
-    let sum = checksum(&out[3..last]);
-    out[last] = sum;
     Checked::Passed
 }

@@ -12,9 +12,6 @@ use Rattle.rs.specs.declared.Verdict.{Verdict}
 use Rattle.rs.specs.declared.Verdict.TheVariants.{Yes, No, Refused as RefusedBlock}
 use Rattle.reading.specs.declared.Reading.{Reading}
 use Rattle.reading.specs.declared.Reading.TheVariants.{Accepted, Refused}
-use Rattle.colour.specs.declared.ColourReading.{ColourReading}
-use Rattle.colour.specs.declared.ColourReading.TheVariants.{Accepted as AcceptedColour, Refused as RefusedColour}
-use Rattle.colour.specs.Tables.{history_number, field_number}
 use Rattle.repair.specs.declared.Repaired.{Repaired}
 use Rattle.repair.specs.declared.Repaired.TheVariants.{Fixed, Refused as RefusedRepair}
 use Rattle.b40.specs.declared.Unpacked.{Unpacked}
@@ -30,7 +27,6 @@ use Rattle.answers.specs.declared.AyAnswer.{AyAnswer}
 use Rattle.answers.specs.declared.AyWord.{AyWord}
 use Rattle.answers.specs.declared.AyVerdict.{AyVerdict}
 use Rattle.answers.specs.declared.AyPacket.{AyPacket}
-use Rattle.answers.specs.declared.AyColour.{AyColour}
 use Rattle.answers.specs.declared.AyRepaired.{AyRepaired}
 use Rattle.answers.specs.declared.AyField.{AyField}
 use Rattle.answers.specs.declared.AyTurn.{AyTurn}
@@ -78,16 +74,6 @@ unfoldable pub packet_from : Reading → AyPacket
 packet_from (Accepted p) = record { number = 0; place = 0; bits = 0; correction = p.correction; ci = p.ci; fixed = p.fixed }
 packet_from (Refused why) =
     record { number = number_of why.reason; place = why.place; bits = bits_in why.reason; correction = false; ci = 0; fixed = 0 }
-
--- ---- colour frame packet
-
--- what reading answered: the numbers of the encoding history and the colour field
-unfoldable pub colour_from : ColourReading → AyColour
-colour_from (AcceptedColour c) = record { number = 0; place = 0; bits = 0; history = history_number c.history; field = field_number c.field }
-colour_from (RefusedColour why) =
-    record { number = number_of why.reason; place = why.place; bits = bits_in why.reason; history = 0; field = 0 }
-
--- ---- repair
 
 -- what repair answered: the fixed words
 unfoldable pub repaired_from : Repaired → AyRepaired

@@ -2,7 +2,7 @@
 ghost use Rattle.std.specs.Prelude.{◌≡◌};
 ghost use Rattle.refusal.specs.Checked.{refusal_in};
 ghost use Rattle.writing.specs.Written.{refusal_in as refusal_in_written};
-ghost use Rattle.answers.specs.Answers.{refused_for, answer_by, refused_with, word_from, verdict_from, packet_from, colour_from, repaired_from, field_from, turn_from, kind_number, followed_from};
+ghost use Rattle.answers.specs.Answers.{refused_for, answer_by, refused_with, word_from, verdict_from, packet_from, repaired_from, field_from, turn_from, kind_number, followed_from};
 
 use desk::Desk;
 use follower::Follower;
@@ -46,17 +46,6 @@ pub struct AyPacket {
     pub correction: bool,
     pub ci: u8,
     pub fixed: u8,
-}
-
-// The answer, with 7 the wrong bits of the word at the place, and the numbers of the encoding history and the colour field, or zeros.
-#[repr(C)]
-#[derive(Drop)]
-pub struct AyColour {
-    pub number: u8,
-    pub place: u8,
-    pub bits: u8,
-    pub history: u8,
-    pub field: u8,
 }
 
 // The answer, and how many words were fixed, or 0.
@@ -221,35 +210,6 @@ pub fn packet(reading: reading::Reading) -> AyPacket
                 correction: false,
                 ci: 0,
                 fixed: 0,
-            }
-        }
-    }
-}
-
-// Of reading a colour frame packet.
-pub fn colour(reading: colour::ColourReading) -> AyColour
-    ensures { result ≡ colour_from reading }
-{
-    match reading {
-        colour::ColourReading::Accepted(c) => {
-            let history = c.history;
-            let field = c.field;
-            AyColour {
-                number: DONE,
-                place: 0,
-                bits: 0,
-                history: colour::history_number(history),
-                field: colour::field_number(field),
-            }
-        }
-        colour::ColourReading::Refused(why) => {
-            let answer = refused_with(why);
-            AyColour {
-                number: answer.number,
-                place: answer.place,
-                bits: answer.bits,
-                history: 0,
-                field: 0,
             }
         }
     }

@@ -8,17 +8,13 @@ ghost use Rattle.writing.specs.Writing.{write_refusal};
 ghost use Rattle.writing.specs.Written.{write_leaves};
 ghost use Rattle.reading.specs.Answer.{reading_of, reading_into_of, read_leaves};
 ghost use Rattle.repair.specs.Repair.{repaired_of, repair_leaves};
-ghost use Rattle.colour.specs.Colour.{write_refusal as write_colour_refusal, write_leaves as write_colour_leaves};
-ghost use Rattle.colour.specs.Reading.{colour_reading_of};
 ghost use Rattle.desk.specs.Desk.{opened, edited, undone, sent, send_leaves};
 ghost use Rattle.follower.specs.Follower.{followed, shown_refusal, shown_leaves, opened as nothing_arrived};
 ghost use Rattle.b40.specs.Packing.{pack_refusal, pack_leaves};
 ghost use Rattle.b40.specs.Unpacking.{unpacked_of, unpack_leaves};
-ghost use Rattle.answers.specs.Answers.{answer_by, word_from, verdict_from, packet_from, colour_from, repaired_from, field_from, turn_from, followed_from};
+ghost use Rattle.answers.specs.Answers.{answer_by, word_from, verdict_from, packet_from, repaired_from, field_from, turn_from, followed_from};
 
-use answers::{
-    AyAnswer, AyColour, AyField, AyFollowed, AyPacket, AyRepaired, AyTurn, AyVerdict, AyWord,
-};
+use answers::{AyAnswer, AyField, AyFollowed, AyPacket, AyRepaired, AyTurn, AyVerdict, AyWord};
 use desk::Desk;
 use follower::Follower;
 
@@ -108,26 +104,6 @@ pub extern "C" fn ay_record_refusal(bytes: &[u8]) -> AyAnswer
 {
     let checked = record::record_refusal(bytes);
     answers::checked(checked)
-}
-
-// ---- colour frame packet
-
-// Writes the packet of an encoding history and a colour field. A refusal leaves `out` as it was.
-#[unsafe(no_mangle)]
-pub extern "C" fn ay_write_colour(history: u8, field: u8, out: &mut [u16]) -> AyAnswer
-    ensures { (result ≡ answer_by (write_colour_refusal history field (length out.old))) × (out.new ≡ write_colour_leaves history field out.old) }
-{
-    let checked = colour::write_colour(history, field, out);
-    answers::checked(checked)
-}
-
-// Reads a packet.
-#[unsafe(no_mangle)]
-pub extern "C" fn ay_read_colour(words: &[u16]) -> AyColour
-    ensures { result ≡ colour_from (colour_reading_of words.now) }
-{
-    let reading = colour::read_colour(words);
-    answers::colour(reading)
 }
 
 // ---- field

@@ -1,11 +1,10 @@
--- The promises: worked values; demand 1 (Only, Refused, Places), demand 2 (Packets, Colour, Words, Reserved, Opening, Sent, History, Unbroken, Private) and demand 3
+-- The promises: worked values; demand 1 (Only, Refused, Places), demand 2 (Packets, Words, Reserved, Opening, Sent, History, Unbroken, Private) and demand 3
 -- (Line, with a line worked out, and Looked, the record shown); what is printed; and what a check is worth (Checking).
 pub mod Values
 pub mod Only
 pub mod Calls
 pub mod PacketCalls
 pub mod Packets
-pub mod Colour
 pub mod Words
 pub mod Reserved
 pub mod Checking

@@ -9,7 +9,6 @@ pub mod Reserved
 pub mod Private
 pub mod Checking
 pub mod Packets
-pub mod Colour
 pub mod Opening
 pub mod History
 pub mod Sent

@@ -1,4 +1,4 @@
--- The calls of word, codeword, record, packet and colour frame packet, through their contracts: which answers, and what left in a lent buffer, a contract allows.
+-- The calls of word, codeword, record and packet, through their contracts: which answers, and what left in a lent buffer, a contract allows.
 -- Assumes nothing.
 use Rattle.std.specs.Prelude.{◌≡◌, Bool, List, ℕ}
 use borrow.Fn.Kinds.{Dens, ended_of}
@@ -27,11 +27,6 @@ use Rattle.reading.proofs.read_packet.Kinds as read-types
 use Rattle.reading.proofs.read_packet.Reads as read-contract
 use Rattle.reading.proofs.read_packet_into.Kinds as read-into-types
 use Rattle.reading.proofs.read_packet_into.Reads as read-into-contract
-use Rattle.colour.specs.declared.ColourReading.{ColourReading}
-use Rattle.colour.proofs.write_colour.Kinds as write-colour-types
-use Rattle.colour.proofs.write_colour.Reads as write-colour-contract
-use Rattle.colour.proofs.read_colour.Kinds as read-colour-types
-use Rattle.colour.proofs.read_colour.Reads as read-colour-contract
 use Rattle.repair.specs.declared.Repaired.{Repaired}
 use Rattle.repair.proofs.repair.Kinds as repair-types
 use Rattle.repair.proofs.repair.Reads as repair-contract
@@ -118,22 +113,3 @@ pub record Repairs (words old : List ℕ) (answer : Repaired) (left : List ℕ) 
   pub room : input.1.0.now ≡ old
   pub leaves : exit.1.0.now ≡ left
   pub allowed : repair-contract.Learnt κs input answer exit
-
--- the colour frame packet of a history and a colour field is written into a buffer that holds `old`, in which `left` is then left
-pub record WritesColour (history field : ℕ) (old : List ℕ) (answer : Checked) (left : List ℕ) : Type 0 where
-  pub κs : Lfts 1
-  pub input : Dens κs write-colour-types.ps
-  pub exit : AtExit (ended_of 1 write-colour-types.ps write-colour-types.r) κs
-  pub first : input.0 ≡ history
-  pub second : input.1.0 ≡ field
-  pub room : input.1.1.0.now ≡ old
-  pub leaves : exit.1.1.0.now ≡ left
-  pub allowed : write-colour-contract.Learnt κs input answer exit
-
--- the words are read as a colour frame packet
-pub record ReadsColour (words : List ℕ) (answer : ColourReading) : Type 0 where
-  pub κs : Lfts 1
-  pub input : Dens κs read-colour-types.ps
-  pub exit : AtExit (ended_of 1 read-colour-types.ps read-colour-types.r) κs
-  pub lent : input.0.now ≡ words
-  pub allowed : read-colour-contract.Learnt κs input answer exit

@@ -1,4 +1,4 @@
--- The place of a refusal: the item's first byte for 11 to 14, the number of a word for 7, that of a reserved byte for 15, else 0; and the bits
+-- The place of a refusal: the item's first byte for 11 to 14, the number of a data word for 7, that of a reserved byte for 15, else 0; and the bits
 -- beside it for C.
 -- Assumes nothing.
 use Rattle.std.specs.Prelude.{◌≡◌, Bool, true, false, ◌&&◌, ◌||◌, ℕ, ◌≤◌, leb, eqb}
@@ -24,7 +24,7 @@ pub record ItemAt (number place : ℕ) : Type 0 where
   pub reason : number_of row.reason ≡ number
   pub first : row.first ≡ place
 
--- is it 7, that of a word that is not sound?
+-- is it 7, that of a data word?
 abbrev pub is_word : ℕ → Bool
 is_word number = eqb number 7
 
@@ -32,7 +32,7 @@ is_word number = eqb number 7
 abbrev pub is_reserved : ℕ → Bool
 is_reserved number = eqb number 15
 
--- place is the item's first byte for 11 to 14, the number of a word, 1 to `last`, for 7, that of a reserved byte, 44 to 107, for 15, else 0;
+-- place is the item's first byte for 11 to 14, the number of a data word, 1 to `last`, for 7, that of a reserved byte, 44 to 107, for 15, else 0;
 -- number 0, where nothing is refused, is among the others. With `last` 0 there is no such word, and the number is not 7.
 pub record RightPlace (last number place : ℕ) : Type 0 where
   pub of_item : is_rule number ≡ true → ItemAt number place

@@ -14,11 +14,6 @@ use Rattle.writing.specs.Layout.{packet_words}
 use Rattle.reading.specs.declared.Reading.TheVariants.{Accepted, Refused}
 use Rattle.reading.specs.Reading.{read_record}
 use Rattle.reading.specs.Answer.{reading_of}
-use Rattle.colour.specs.declared.EncodingHistory.TheVariants.{Pal}
-use Rattle.colour.specs.declared.ColourField.TheVariants.{Field5}
-use Rattle.colour.specs.declared.ColourReading.TheVariants.{Accepted as AcceptedColour}
-use Rattle.colour.specs.Colour.{colour_words}
-use Rattle.colour.specs.Reading.{colour_reading_of}
 use Rattle.desk.specs.Desk.{opening}
 use Rattle.sequence.specs.declared.Kind.TheVariants.{Repeat}
 use Rattle.reading.specs.declared.Packet.{Packet}
@@ -64,10 +59,6 @@ pub record Values : Type 0 where
   pub fresh_off : sum_word (packet_words false 0 opening) ≡ 0x149
   pub fresh_off_read : reading_of (packet_words false 0 opening) ≡ Accepted (record { correction = false; ci = 0; fixed = 0 })
   pub fresh_off_record : read_record (packet_words false 0 opening) ≡ opening
-  -- the colour frame packets that say nothing, and PAL with colour field 5
-  pub colour_nothing : colour_words 0 0 ≡ 0x000 ∷ 0x3FF ∷ 0x3FF ∷ 0x25F ∷ 0x2CF ∷ 0x203 ∷ 0x200 ∷ 0x200 ∷ 0x200 ∷ 0x131 ∷ []
-  pub colour_pal_5 : colour_words 6 5 ≡ 0x000 ∷ 0x3FF ∷ 0x3FF ∷ 0x25F ∷ 0x2CF ∷ 0x203 ∷ 0x206 ∷ 0x205 ∷ 0x200 ∷ 0x13C ∷ []
-  pub colour_pal_5_read : colour_reading_of (colour_words 6 5) ≡ AcceptedColour (record { history = Pal; field = Field5 })
   pub sound_92 : sound_byte 0x92 ≡ true
   pub sound_89 : sound_byte 0x89 ≡ false
   pub sound_32 : sound_byte 0x32 ≡ false

@@ -1,7 +1,8 @@
 -- What reading a packet answers and leaves, and what each of its answers says.
 -- Assumes nothing.
-use Rattle.std.specs.Prelude.{Bool, cond, List, ◌∷◌, ℕ, length, take}
+use Rattle.std.specs.Prelude.{Bool, cond, List, ◌++◌, ℕ, eqb, length, take, drop}
 use Rattle.std.proofs.Math.Option.{Option, none, some}
+use Rattle.anc.specs.Word.{checksum_of}
 use Rattle.refusal.specs.Chain.{require}
 use Rattle.refusal.specs.Number.{refusal_plain}
 use Rattle.refusal.specs.declared.Reason.TheVariants.{Checksum}
@@ -13,9 +14,8 @@ use Rattle.reading.specs.declared.Reading.{Reading}
 use Rattle.reading.specs.declared.Reading.TheVariants.{Accepted, Refused}
 use Rattle.repair.specs.Protected.{rewritten}
 use Rattle.anc.specs.Words.{low_bytes, sound_words}
-use Rattle.anc.specs.Packet.{word, summed_with, sum_right}
 use Rattle.refusal.specs.Chain.{left_by}
-use Rattle.reading.specs.Reading.{correction_of, index_of, read_fixed, protected_of, read_refusal, read_into_refusal, read_record}
+use Rattle.reading.specs.Reading.{word, correction_of, index_of, read_fixed, protected_of, read_refusal, read_into_refusal, read_record}
 
 -- ---- what an answer says, for every case of it
 
@@ -56,13 +56,9 @@ read_leaves words old = left_by (read_into_refusal words (length old)) (read_rec
 unfoldable pub guard_bytes : Bool → List ℕ → List ℕ
 guard_bytes on guarded = low_bytes (cond on (rewritten guarded) guarded)
 
--- the user words, by the bytes that are read
-unfoldable pub user_by : Bool → List ℕ → List ℕ → List ℕ
-user_by on words bytes = word words 6 ∷ cond on (sound_words bytes) (protected_of words)
-
 -- what the checksum is taken over, by the bytes that are read
 unfoldable pub summed_by : Bool → List ℕ → List ℕ → List ℕ
-summed_by on words bytes = summed_with words (user_by on words bytes)
+summed_by on words bytes = take 4 (drop 3 words) ++ cond on (sound_words bytes) (protected_of words)
 
 -- the packet, by the bytes that are read
 unfoldable pub packet_by : List ℕ → List ℕ → Packet
@@ -72,4 +68,4 @@ packet_by words bytes =
 -- 10, 15, 11 to 14, by the bytes that are read
 unfoldable pub tail_refusal : List ℕ → Bool → List ℕ → Option Refusal
 tail_refusal words on bytes =
-    require (sum_right 255 words (user_by on words bytes)) (refusal_plain Checksum) (record_refusal (take 248 bytes))
+    require (eqb (checksum_of (summed_by on words bytes)) (word words 261)) (refusal_plain Checksum) (record_refusal (take 248 bytes))

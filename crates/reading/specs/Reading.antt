@@ -1,19 +1,21 @@
 -- Reading a packet: its parts, what it is refused for in the order of the checks, what is read, and its words once it is written again.
 -- Assumes nothing.
-use Rattle.std.specs.Prelude.{◌≡◌, Bool, false, cond, ◌&&◌, List, ◌∷◌, ◌++◌, ℕ, ◌/◌, ◌%◌, eqb, take, drop}
+use Rattle.std.specs.Prelude.{◌≡◌, Bool, false, cond, ◌&&◌, List, ◌++◌, ℕ, ◌/◌, ◌%◌, eqb, length, get_or, take, drop}
 use Rattle.std.proofs.Math.Option.{Option}
 use Rattle.anc.specs.Word.{is_sound, checksum_of}
 use Rattle.soundness.specs.Check.{unsound_from}
 use Rattle.basics.specs.Each.{all}
 use Rattle.refusal.specs.Chain.{require, next, passed}
 use Rattle.refusal.specs.Number.{refusal_plain}
-use Rattle.refusal.specs.declared.Reason.TheVariants.{Header, Fill, BeyondRepair, Checksum, Room}
+use Rattle.refusal.specs.declared.Reason.TheVariants.{Length, Wide, Flag, Kind, Count, Header, Fill, BeyondRepair, Checksum, Room}
 use Rattle.refusal.specs.declared.Refusal.{Refusal}
 use Rattle.record.specs.Record.{content_refusal, record_of}
 use Rattle.repair.specs.Protected.{repairable, rewritten, fixed_of}
-use Rattle.anc.specs.Words.{low_bytes}
-use Rattle.anc.specs.Packet.{word, summed_with, sum_right, front_refusal}
-use Rattle.writing.specs.Layout.{did, sdid}
+use Rattle.anc.specs.Words.{has_flag, low_bytes, narrow}
+
+-- word n of a packet, counted from 0
+abbrev pub word : List ℕ → ℕ → ℕ
+word words n = get_or words n 0
 
 -- ---- the parts
 
@@ -40,13 +42,9 @@ read_words words = cond (correction_of words) (rewritten (protected_of words)) (
 unfoldable pub read_bytes : List ℕ → List ℕ
 read_bytes words = take 248 (low_bytes (read_words words))
 
--- the 255 user words as they are read
-unfoldable pub read_user : List ℕ → List ℕ
-read_user words = word words 6 ∷ read_words words
-
 -- from DID to the last user word, as they are read
 unfoldable pub summed_of : List ℕ → List ℕ
-summed_of words = summed_with words (read_user words)
+summed_of words = take 4 (drop 3 words) ++ read_words words
 
 -- the number of protected words whose ten bits changed; 0 with correction off
 unfoldable pub read_fixed : List ℕ → ℕ
@@ -60,7 +58,13 @@ is_header w = is_sound w && eqb (w / 16 % 8) 0
 
 -- 1 to 6: the words up to the header
 unfoldable pub head_refusal : List ℕ → Option Refusal
-head_refusal words = next (front_refusal did sdid 255 words) (require (is_header (word words 6)) (refusal_plain Header) passed)
+head_refusal words =
+    require (eqb (length words) 262) (refusal_plain Length)
+    (require (narrow words) (refusal_plain Wide)
+    (require (has_flag words) (refusal_plain Flag)
+    (require (eqb (word words 3) 0x25F && eqb (word words 4) 0x1FE) (refusal_plain Kind)
+    (require (eqb (word words 5) 0x2FF) (refusal_plain Count)
+    (require (is_header (word words 6)) (refusal_plain Header) passed)))))
 
 -- is the word 0x200?
 abbrev pub is_fill : ℕ → Bool
@@ -76,7 +80,7 @@ protected_refusal correction guarded =
 unfoldable pub body_refusal : List ℕ → Option Refusal
 body_refusal words =
     next (protected_refusal (correction_of words) (protected_of words))
-    (require (sum_right 255 words (read_user words)) (refusal_plain Checksum) (content_refusal (read_bytes words)))
+    (require (eqb (checksum_of (summed_of words)) (word words 261)) (refusal_plain Checksum) (content_refusal (read_bytes words)))
 
 -- 1 to 10, 15, 11 to 14
 unfoldable pub read_refusal : List ℕ → Option Refusal

@@ -41,11 +41,17 @@ fn all_fill(words: &[u16]) -> bool
 fn head_refusal(words: &[u16]) -> Checked
     ensures { result ≡ checked_of (head_refusal words.now) }
 {
-    let front = anc::front_refusal(0x25F, 0x1FE, 255, words);
-    match front {
-        Checked::Passed => then(front, is_header(words[6]), Reason::Header, 0),
-        Checked::Refused(why) => Checked::Refused(why),
+    if words.len() != 262 {
+        return Checked::Refused(refusal::plain(Reason::Length));
     }
+    let is_kind = (words[3] == 0x25F) & (words[4] == 0x1FE);
+    let header = words[6];
+    let length = Checked::Passed;
+    let wide = then(length, anc::narrow(words), Reason::Wide, 0);
+    let flag = then(wide, anc::has_flag(words), Reason::Flag, 0);
+    let kind = then(flag, is_kind, Reason::Kind, 0);
+    let count = then(kind, words[5] == 0x2FF, Reason::Count, 0);
+    then(count, is_header(header), Reason::Header, 0)
 }
 
 // Fills `out` with the bytes of the 254 protected words as they are read, and says what the words are refused for.

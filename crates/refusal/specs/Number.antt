@@ -4,12 +4,12 @@ use Rattle.std.specs.Prelude.{List, [], ◌∷◌, ℕ}
 use Rattle.refusal.specs.declared.Wrong.{Wrong}
 use Rattle.refusal.specs.declared.Wrong.TheVariants.{B8, B9, Both}
 use Rattle.refusal.specs.declared.Reason.{Reason}
-use Rattle.refusal.specs.declared.Reason.TheVariants.{Length, Wide, Flag, Kind, Count, Header, Parity, Fill, BeyondRepair, Checksum, Station, Time, Picture, Sound, ReservedArea, Item, Size, NothingToUndo, Room, FieldLength, FieldHead, Index, History, ColourField, ThirdWord, OffRetired}
+use Rattle.refusal.specs.declared.Reason.TheVariants.{Length, Wide, Flag, Kind, Count, Header, Parity, Fill, BeyondRepair, Checksum, Station, Time, Picture, Sound, ReservedArea, Item, Size, NothingToUndo, Room, FieldLength, FieldHead, Index, OffRetired}
 use Rattle.refusal.specs.declared.Refusal.{Refusal}
 
 -- the numbers that may be given, in order
 unfoldable pub fixed_list : List ℕ
-fixed_list = 1 ∷ 2 ∷ 3 ∷ 4 ∷ 5 ∷ 6 ∷ 7 ∷ 8 ∷ 9 ∷ 10 ∷ 11 ∷ 12 ∷ 13 ∷ 14 ∷ 15 ∷ 20 ∷ 21 ∷ 22 ∷ 23 ∷ 25 ∷ 26 ∷ 27 ∷ 32 ∷ 33 ∷ 34 ∷ 41 ∷ []
+fixed_list = 1 ∷ 2 ∷ 3 ∷ 4 ∷ 5 ∷ 6 ∷ 7 ∷ 8 ∷ 9 ∷ 10 ∷ 11 ∷ 12 ∷ 13 ∷ 14 ∷ 15 ∷ 20 ∷ 21 ∷ 22 ∷ 23 ∷ 25 ∷ 26 ∷ 27 ∷ 41 ∷ []
 
 -- the numbers that were given once and may never be given again: 24 was for sending bytes that break a rule, which no opened desk holds
 unfoldable pub retired : List ℕ
@@ -39,9 +39,6 @@ number_of Room = 23
 number_of FieldLength = 25
 number_of FieldHead = 26
 number_of Index = 27
-number_of History = 32
-number_of ColourField = 33
-number_of ThirdWord = 34
 number_of OffRetired = 41
 
 -- what is wrong with a word that is not sound, as a number
@@ -74,9 +71,6 @@ bits_in Room = 0
 bits_in FieldLength = 0
 bits_in FieldHead = 0
 bits_in Index = 0
-bits_in History = 0
-bits_in ColourField = 0
-bits_in ThirdWord = 0
 bits_in OffRetired = 0
 
 -- a refusal for a reason, at a place

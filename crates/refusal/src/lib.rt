@@ -38,9 +38,6 @@ pub enum Reason {
     FieldLength,
     FieldHead,
     Index,
-    History,
-    ColourField,
-    ThirdWord,
     OffRetired,
 }
 
@@ -78,9 +75,6 @@ pub fn number(reason: Reason) -> u8
         Reason::FieldLength => 25,
         Reason::FieldHead => 26,
         Reason::Index => 27,
-        Reason::History => 32,
-        Reason::ColourField => 33,
-        Reason::ThirdWord => 34,
         Reason::OffRetired => 41,
     }
 }

@@ -1,8 +1,8 @@
 // The 262 words of 248 bytes, written part by part into a buffer that has room for them.
-ghost use Rattle.std.specs.Prelude.{◌≡◌, cond, ◌≤◌, length, replicate};
+ghost use Rattle.std.specs.Prelude.{◌≡◌, cond, ◌++◌, ◌∷◌, [], ◌≤◌, length, replicate};
 ghost use Rattle.rs.specs.Codeword.{parity_of};
-ghost use Rattle.anc.specs.Words.{sound_words};
-ghost use Rattle.writing.specs.Layout.{header_word, packet_words};
+ghost use Rattle.anc.specs.Words.{sound_words, flag};
+ghost use Rattle.writing.specs.Layout.{kind, header_word, packet_words};
 
 // The header word.
 fn header(correction: bool, ci: u8) -> u16
@@ -14,6 +14,21 @@ fn header(correction: bool, ci: u8) -> u16
     } else {
         anc::word_of(ci)
     }
+}
+
+// Fills seven words with the flag, the kind and the header.
+fn front(correction: bool, ci: u8, out: &mut [u16])
+    requires { (ci ≤ 15) × (length out.old ≡ 7) }
+    ensures { out.new ≡ flag ++ kind ++ header_word correction ci ∷ [] }
+{
+    let first = header(correction, ci);
+    out[0] = 0x000;
+    out[1] = 0x3FF;
+    out[2] = 0x3FF;
+    out[3] = 0x25F;
+    out[4] = 0x1FE;
+    out[5] = 0x2FF;
+    out[6] = first;
 }
 
 // Fills six words with the parity of the bytes, or with 0x200 where correction is off.
@@ -34,13 +49,14 @@ fn guard(correction: bool, bytes: &[u8], out: &mut [u16])
     }
 }
 
-// Fills 262 words with the packet of 248 bytes: its user words, and then what packets of every kind have around them.
+// Fills 262 words with the packet of 248 bytes. The checksum comes last, over the words that stand there by then.
 pub(crate) fn fill(correction: bool, ci: u8, bytes: &[u8], out: &mut [u16])
     requires { (ci ≤ 15) × (length bytes.now ≡ 248) × (length out.old ≡ 262) }
     ensures { out.new ≡ packet_words correction ci bytes.now }
 {
-    out[6] = header(correction, ci);
+    front(correction, ci, &mut out[0..7]);
     anc::sound_words(bytes, &mut out[7..255]);
     guard(correction, bytes, &mut out[255..261]);
-    anc::make_packet(0x25F, 0x1FE, out);
+    let sum = anc::checksum(&out[3..261]);
+    out[261] = sum;
 }

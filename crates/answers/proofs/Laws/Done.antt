@@ -22,9 +22,6 @@ use Rattle.rs.specs.declared.Verdict.TheVariants.{Yes, No, Refused as RefusedBlo
 use Rattle.rs.specs.Check.{refusal_in as refusal_in_verdict}
 use Rattle.reading.specs.declared.Reading.{Reading}
 use Rattle.reading.specs.declared.Reading.TheVariants.{Accepted, Refused}
-use Rattle.colour.specs.declared.ColourReading.{ColourReading}
-use Rattle.colour.specs.declared.ColourReading.TheVariants.{Accepted as AcceptedColour, Refused as RefusedColour}
-use Rattle.colour.specs.Reading.{refusal_in as refusal_in_colour}
 use Rattle.repair.specs.declared.Repaired.{Repaired}
 use Rattle.repair.specs.declared.Repaired.TheVariants.{Fixed, Refused as RefusedRepair}
 use Rattle.reading.specs.Answer.{refusal_in as refusal_in_reading}
@@ -39,7 +36,7 @@ use Rattle.follower.specs.declared.Heard.{Heard}
 use Rattle.follower.specs.declared.Heard.TheVariants.{Accepted as Arrived, Refused as RefusedPacket}
 use Rattle.follower.specs.Follower.{refusal_in as refusal_in_heard}
 use Rattle.follower.specs.declared.Followed.{Followed}
-use Rattle.answers.specs.Answers.{done, answer_by, word_from, verdict_from, packet_from, colour_from, repaired_from, field_from, turn_from, heard_from, followed_from}
+use Rattle.answers.specs.Answers.{done, answer_by, word_from, verdict_from, packet_from, repaired_from, field_from, turn_from, heard_from, followed_from}
 
 -- ---- number 0
 
@@ -88,11 +85,6 @@ pub packet-says : (r : Reading) → Says (packet_from r).number (packet_from r).
 unfolding packet_from answer_by
 packet-says (Accepted p) = record { number_is = refl; place_is = refl }
 packet-says (Refused why) = record { number_is = refl; place_is = refl }
-
-pub colour-says : (r : ColourReading) → Says (colour_from r).number (colour_from r).place (refusal_in_colour r)
-unfolding colour_from answer_by
-colour-says (AcceptedColour c) = record { number_is = refl; place_is = refl }
-colour-says (RefusedColour why) = record { number_is = refl; place_is = refl }
 
 pub repaired-says : (r : Repaired) → Says (repaired_from r).number (repaired_from r).place (refusal_in_repaired r)
 unfolding repaired_from answer_by

@@ -23,11 +23,6 @@ use Rattle.rs.specs.declared.Verdict.TheVariants.{Yes, No, Refused as RefusedBlo
 use Rattle.rs.specs.Check.{refusal_in as refusal_in_verdict}
 use Rattle.reading.specs.declared.Reading.{Reading}
 use Rattle.reading.specs.declared.Reading.TheVariants.{Accepted, Refused}
-use Rattle.colour.specs.declared.Colour.{Colour}
-use Rattle.colour.specs.declared.ColourReading.{ColourReading}
-use Rattle.colour.specs.declared.ColourReading.TheVariants.{Accepted as AcceptedColour, Refused as RefusedColour}
-use Rattle.colour.specs.Tables.{history_of, field_of}
-use Rattle.colour.proofs.Laws.Tables.{history-again, field-again}
 use Rattle.repair.specs.declared.Repaired.{Repaired}
 use Rattle.repair.specs.declared.Repaired.TheVariants.{Fixed, Refused as RefusedRepair}
 use Rattle.b40.specs.declared.Unpacked.{Unpacked}
@@ -49,12 +44,11 @@ use Rattle.answers.specs.declared.AyAnswer.{AyAnswer}
 use Rattle.answers.specs.declared.AyWord.{AyWord}
 use Rattle.answers.specs.declared.AyVerdict.{AyVerdict}
 use Rattle.answers.specs.declared.AyPacket.{AyPacket}
-use Rattle.answers.specs.declared.AyColour.{AyColour}
 use Rattle.answers.specs.declared.AyRepaired.{AyRepaired}
 use Rattle.answers.specs.declared.AyField.{AyField}
 use Rattle.answers.specs.declared.AyTurn.{AyTurn}
 use Rattle.answers.specs.declared.AyFollowed.{AyFollowed}
-use Rattle.answers.specs.Answers.{answer_by, word_from, verdict_from, packet_from, colour_from, repaired_from, field_from, turn_from, kind_number, heard_from, followed_from}
+use Rattle.answers.specs.Answers.{answer_by, word_from, verdict_from, packet_from, repaired_from, field_from, turn_from, kind_number, heard_from, followed_from}
 use Rattle.answers.proofs.Laws.Done.{number-positive}
 
 -- no reason has number 0
@@ -129,22 +123,6 @@ packet-tells (Accepted p) (Refused b) e = never-zero b.reason (sym (ap (λ (x : 
 packet-tells (Refused a) (Accepted q) e = never-zero a.reason (ap (λ (x : AyPacket). x.number) e)
 packet-tells (Refused a) (Refused b) e =
     ap Refused (refusal-known a b (ap (λ (x : AyPacket). x.number) e) (ap (λ (x : AyPacket). x.place) e) (ap (λ (x : AyPacket). x.bits) e))
-
--- what a colour frame packet says is known by its numbers
-colour_named : AyColour → Colour
-colour_named x = record { history = history_of x.history; field = field_of x.field }
-
-colour-back : (c : Colour) → colour_named (colour_from (AcceptedColour c)) ≡ c
-unfolding colour_named colour_from
-colour-back c = rw (history-again c.history, field-again c.field)
-
-pub colour-tells : (a b : ColourReading) → colour_from a ≡ colour_from b → a ≡ b
-unfolding colour_from
-colour-tells (AcceptedColour c) (AcceptedColour d) e = ap AcceptedColour (sym (colour-back c) ∙ ap colour_named e ∙ colour-back d)
-colour-tells (AcceptedColour c) (RefusedColour b) e = never-zero b.reason (sym (ap (λ (x : AyColour). x.number) e))
-colour-tells (RefusedColour a) (AcceptedColour d) e = never-zero a.reason (ap (λ (x : AyColour). x.number) e)
-colour-tells (RefusedColour a) (RefusedColour b) e =
-    ap RefusedColour (refusal-known a b (ap (λ (x : AyColour). x.number) e) (ap (λ (x : AyColour). x.place) e) (ap (λ (x : AyColour). x.bits) e))
 
 pub repaired-tells : (a b : Repaired) → Without 7 (refusal_in_repaired a) → Without 7 (refusal_in_repaired b) → repaired_from a ≡ repaired_from b → a ≡ b
 unfolding repaired_from

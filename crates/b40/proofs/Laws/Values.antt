@@ -1,18 +1,17 @@
 -- A value on both sides of a line: the first bytes of a field.
 -- Assumes nothing.
-use mathlib.Core.Path.{◌≡◌}
+use mathlib.Core.Path.{◌≡◌, refl}
 use mathlib.Core.Bool.{false}
 use mathlib.Core.List.{List, [], ◌∷◌}
 use Prim.Native.Nat.{ℕ}
-use lib.ListN.{length, take}
+use lib.ListN.{take}
 use Rattle.anc.specs.Word.{word_of, with_b9, bit, ones, parity_of}
-use Rattle.writing.specs.Layout.{packet_words, header_word}
-use Rattle.writing.proofs.Laws.Layout.{packet-carries, user-long}
+use Rattle.writing.specs.Layout.{packet_words, summed_words, kind, header_word}
+use Rattle.anc.specs.Words.{flag}
 use Rattle.b40.specs.Field.{bits, bits_each, number_of, numbers, field_bits, field_of}
 
 -- correction off and CI 0, Y/C 0, line 9, offset 0: these bytes do not yet hold any of the record, so they are the same for each, the one that a
 -- desk opens with among them
-pub begins : (record' : List ℕ) → length record' ≡ 248
-    → take 8 (field_of false 9 0 (packet_words false 0 record')) ≡ 0x00 ∷ 0x02 ∷ 0x40 ∷ 0x02 ∷ 0x5F ∷ 0x7F ∷ 0xAF ∷ 0xF8 ∷ []
-unfolding field_of field_bits bits bits_each number_of numbers bit header_word word_of with_b9 ones parity_of
-begins record' n = rw (packet-carries false 0 record', user-long false 0 record' n)
+pub begins : (record' : List ℕ) → take 8 (field_of false 9 0 (packet_words false 0 record')) ≡ 0x00 ∷ 0x02 ∷ 0x40 ∷ 0x02 ∷ 0x5F ∷ 0x7F ∷ 0xAF ∷ 0xF8 ∷ []
+unfolding field_of field_bits bits bits_each number_of numbers bit packet_words summed_words kind flag header_word word_of with_b9 ones parity_of
+begins record' = refl

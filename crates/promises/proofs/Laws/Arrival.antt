@@ -10,9 +10,9 @@ use lib.Seq.{take_at, drop_at}
 use Rattle.basics.specs.Below.{Bytes}
 use Rattle.basics.specs.Each.{all}
 use Rattle.record.proofs.Laws.Stored.{CleanRecord}
-use Rattle.anc.specs.Word.{is_sound, word_of}
+use Rattle.anc.specs.Word.{is_sound}
 use Rattle.anc.specs.Words.{narrow}
-use Rattle.writing.specs.Layout.{header_word, protected_words, user_words, packet_words, carrying}
+use Rattle.writing.specs.Layout.{header_word, protected_words, packet_words, carrying}
 use Rattle.repair.specs.Reach.{damage}
 use Rattle.reading.specs.Reading.{protected_of, index_of, read_refusal, read_record}
 use Rattle.writing.proofs.Laws.Layout.{packet-carries, length-protected, protected-narrow}
@@ -43,7 +43,7 @@ module _ (ci : ℕ) (r : List ℕ) (hc : ci ≤ 15) (c : CleanRecord r) (b : Byt
   sent-carries : (q : List ℕ) → take 7 sent ++ q ++ drop 261 sent ≡ carrying true ci r q
   sent-carries q =
       ap (λ (l : List ℕ). take 7 l ++ q ++ drop 261 l) (packet-carries true ci r)
-      ∙ ap (λ (l : List ℕ). 0x000 ∷ 0x3FF ∷ 0x3FF ∷ 0x25F ∷ 0x1FE ∷ word_of (length (user_words true ci r)) ∷ header_word true ci ∷ (q ++ l)) (drop_at guarded _ 254 guarded-length)
+      ∙ ap (λ (l : List ℕ). 0x000 ∷ 0x3FF ∷ 0x3FF ∷ 0x25F ∷ 0x1FE ∷ 0x2FF ∷ header_word true ci ∷ (q ++ l)) (drop_at guarded _ 254 guarded-length)
 
   -- the protected words are 254, of ten bits each, and sound
   pub sent-long : length (protected_of sent) ≡ 254

@@ -25,14 +25,6 @@ use Rattle.soundness.proofs.check_word.Kinds as check-word-types
 use Rattle.soundness.proofs.check_word.Reads as check-word-contract
 use Rattle.soundness.proofs.check_words.Kinds as check-words-types
 use Rattle.soundness.proofs.check_words.Reads as check-words-contract
-use Rattle.colour.proofs.history_number.Kinds as history-number-types
-use Rattle.colour.proofs.history_number.Reads as history-number-contract
-use Rattle.colour.proofs.field_number.Kinds as field-number-types
-use Rattle.colour.proofs.field_number.Reads as field-number-contract
-use Rattle.colour.proofs.write_colour.Kinds as write-colour-types
-use Rattle.colour.proofs.write_colour.Reads as write-colour-contract
-use Rattle.colour.proofs.read_colour.Kinds as read-colour-types
-use Rattle.colour.proofs.read_colour.Reads as read-colour-contract
 use Rattle.anc.proofs.checksum.Kinds as checksum-types
 use Rattle.anc.proofs.checksum.Reads as checksum-contract
 use Rattle.anc.proofs.has_flag.Kinds as has-flag-types
@@ -43,10 +35,6 @@ use Rattle.anc.proofs.low_bytes.Kinds as low-bytes-types
 use Rattle.anc.proofs.low_bytes.Reads as low-bytes-contract
 use Rattle.anc.proofs.sound_words.Kinds as sound-words-types
 use Rattle.anc.proofs.sound_words.Reads as sound-words-contract
-use Rattle.anc.proofs.front_refusal.Kinds as front-refusal-types
-use Rattle.anc.proofs.front_refusal.Reads as front-refusal-contract
-use Rattle.anc.proofs.make_packet.Kinds as make-packet-types
-use Rattle.anc.proofs.make_packet.Reads as make-packet-contract
 use Rattle.rules.proofs.station.Kinds as station-types
 use Rattle.rules.proofs.station.Reads as station-contract
 use Rattle.rules.proofs.time.Kinds as time-types
@@ -177,8 +165,6 @@ use Rattle.answers.proofs.verdict.Kinds as answer-verdict-types
 use Rattle.answers.proofs.verdict.Reads as answer-verdict-contract
 use Rattle.answers.proofs.packet.Kinds as answer-packet-types
 use Rattle.answers.proofs.packet.Reads as answer-packet-contract
-use Rattle.answers.proofs.colour.Kinds as answer-colour-types
-use Rattle.answers.proofs.colour.Reads as answer-colour-contract
 use Rattle.answers.proofs.repaired.Kinds as answer-repaired-types
 use Rattle.answers.proofs.repaired.Reads as answer-repaired-contract
 use Rattle.answers.proofs.field.Kinds as answer-field-types
@@ -199,10 +185,6 @@ use Rattle.capi.proofs.ay_read_packet.Kinds as ay-read-packet-types
 use Rattle.capi.proofs.ay_read_packet.Reads as ay-read-packet-contract
 use Rattle.capi.proofs.ay_read_packet_into.Kinds as ay-read-packet-into-types
 use Rattle.capi.proofs.ay_read_packet_into.Reads as ay-read-packet-into-contract
-use Rattle.capi.proofs.ay_write_colour.Kinds as ay-write-colour-types
-use Rattle.capi.proofs.ay_write_colour.Reads as ay-write-colour-contract
-use Rattle.capi.proofs.ay_read_colour.Kinds as ay-read-colour-types
-use Rattle.capi.proofs.ay_read_colour.Reads as ay-read-colour-contract
 use Rattle.capi.proofs.ay_repair.Kinds as ay-repair-types
 use Rattle.capi.proofs.ay_repair.Reads as ay-repair-contract
 use Rattle.capi.proofs.ay_check_codeword.Kinds as ay-check-codeword-types
@@ -271,12 +253,6 @@ low-bytes κs i a b s t p q = (p.0 ∙ sym q.0, p.1 ∙ sym q.1)
 pub sound-words : OneOutcome 2 sound-words-types.ps sound-words-types.r (λ κs s. s.1.0.now) sound-words-contract.Learnt
 sound-words κs i a b s t p q = (p.0 ∙ sym q.0, p.1 ∙ sym q.1)
 
-pub front-refusal : OneAnswer 1 front-refusal-types.ps front-refusal-types.r front-refusal-contract.Learnt
-front-refusal κs i a b s t p q = p ∙ sym q
-
-pub make-packet : OneOutcome 1 make-packet-types.ps make-packet-types.r (λ κs s. s.1.1.0.now) make-packet-contract.Learnt
-make-packet κs i a b s t p q = (p.0 ∙ sym q.0, p.1 ∙ sym q.1)
-
 -- ---- soundness
 
 pub check-word : OneAnswer 0 check-word-types.ps check-word-types.r check-word-contract.Learnt
@@ -284,20 +260,6 @@ check-word κs i a b s t p q = p ∙ sym q
 
 pub check-words : OneAnswer 1 check-words-types.ps check-words-types.r check-words-contract.Learnt
 check-words κs i a b s t p q = p ∙ sym q
-
--- ---- colour
-
-pub history-number : OneAnswer 0 history-number-types.ps history-number-types.r history-number-contract.Learnt
-history-number κs i a b s t p q = p ∙ sym q
-
-pub field-number : OneAnswer 0 field-number-types.ps field-number-types.r field-number-contract.Learnt
-field-number κs i a b s t p q = p ∙ sym q
-
-pub write-colour : OneOutcome 1 write-colour-types.ps write-colour-types.r (λ κs s. s.1.1.0.now) write-colour-contract.Learnt
-write-colour κs i a b s t p q = (p.0 ∙ sym q.0, p.1 ∙ sym q.1)
-
-pub read-colour : OneAnswer 1 read-colour-types.ps read-colour-types.r read-colour-contract.Learnt
-read-colour κs i a b s t p q = p ∙ sym q
 
 -- ---- gf256
 
@@ -530,9 +492,6 @@ answer-verdict κs i a b s t p q = p ∙ sym q
 pub answer-packet : OneAnswer 0 answer-packet-types.ps answer-packet-types.r answer-packet-contract.Learnt
 answer-packet κs i a b s t p q = p ∙ sym q
 
-pub answer-colour : OneAnswer 0 answer-colour-types.ps answer-colour-types.r answer-colour-contract.Learnt
-answer-colour κs i a b s t p q = p ∙ sym q
-
 pub answer-repaired : OneAnswer 0 answer-repaired-types.ps answer-repaired-types.r answer-repaired-contract.Learnt
 answer-repaired κs i a b s t p q = p ∙ sym q
 
@@ -564,12 +523,6 @@ ay-read-packet κs i a b s t p q = p ∙ sym q
 
 pub ay-read-packet-into : OneOutcome 2 ay-read-packet-into-types.ps ay-read-packet-into-types.r (λ κs s. s.1.0.now) ay-read-packet-into-contract.Learnt
 ay-read-packet-into κs i a b s t p q = (p.0 ∙ sym q.0, p.1 ∙ sym q.1)
-
-pub ay-write-colour : OneOutcome 1 ay-write-colour-types.ps ay-write-colour-types.r (λ κs s. s.1.1.0.now) ay-write-colour-contract.Learnt
-ay-write-colour κs i a b s t p q = (p.0 ∙ sym q.0, p.1 ∙ sym q.1)
-
-pub ay-read-colour : OneAnswer 1 ay-read-colour-types.ps ay-read-colour-types.r ay-read-colour-contract.Learnt
-ay-read-colour κs i a b s t p q = p ∙ sym q
 
 pub ay-repair : OneOutcome 2 ay-repair-types.ps ay-repair-types.r (λ κs s. s.1.0.now) ay-repair-contract.Learnt
 ay-repair κs i a b s t p q = (p.0 ∙ sym q.0, p.1 ∙ sym q.1)

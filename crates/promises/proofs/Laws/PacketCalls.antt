@@ -1,4 +1,4 @@
--- What the contracts say of the calls of word, codeword, record, packet and colour frame packet, as equations.
+-- What the contracts say of the calls of word, codeword, record and packet, as equations.
 -- Assumes nothing.
 use mathlib.Core.Path.{◌≡◌, sym, ap, ◌∙◌}
 use mathlib.Core.Bool.{Bool}
@@ -18,12 +18,9 @@ use Rattle.writing.specs.declared.Written.{Written}
 use Rattle.writing.specs.Written.{written_of, write_leaves}
 use Rattle.reading.specs.declared.Reading.{Reading}
 use Rattle.reading.specs.Answer.{reading_of, reading_into_of, read_leaves}
-use Rattle.colour.specs.declared.ColourReading.{ColourReading}
-use Rattle.colour.specs.Colour.{write_refusal as write_colour_refusal, write_leaves as write_colour_leaves}
-use Rattle.colour.specs.Reading.{colour_reading_of}
 use Rattle.repair.specs.declared.Repaired.{Repaired}
 use Rattle.repair.specs.Repair.{repaired_of, repair_leaves}
-use Rattle.promises.specs.PacketCalls.{ChecksWord, ChecksWords, ChecksCodeword, ChecksRecord, ReadsRecord, Writes, ReadsPacket, ReadsInto, Repairs, WritesColour, ReadsColour}
+use Rattle.promises.specs.PacketCalls.{ChecksWord, ChecksWords, ChecksCodeword, ChecksRecord, ReadsRecord, Writes, ReadsPacket, ReadsInto, Repairs}
 
 pub checks-word-is : (word : ℕ) (a : Soundness) → ChecksWord word a → a ≡ soundness_of word
 checks-word-is word a C = C.allowed ∙ ap soundness_of C.given
@@ -60,14 +57,3 @@ repairs-is ws old a left R = R.allowed.0 ∙ (λ i. repaired_of (R.lent i) (leng
 
 pub repairs-leaves : (ws old : List ℕ) (a : Repaired) (left : List ℕ) → Repairs ws old a left → left ≡ repair_leaves ws old
 repairs-leaves ws old a left R = sym R.leaves ∙ R.allowed.1 ∙ (λ i. repair_leaves (R.lent i) (R.room i))
-
-pub writes-colour-is : (history field : ℕ) (old : List ℕ) (a : Checked) (left : List ℕ) → WritesColour history field old a left
-    → a ≡ checked_of (write_colour_refusal history field (length old))
-writes-colour-is history field old a left W = W.allowed.0 ∙ (λ i. checked_of (write_colour_refusal (W.first i) (W.second i) (length (W.room i))))
-
-pub writes-colour-leaves : (history field : ℕ) (old : List ℕ) (a : Checked) (left : List ℕ) → WritesColour history field old a left
-    → left ≡ write_colour_leaves history field old
-writes-colour-leaves history field old a left W = sym W.leaves ∙ W.allowed.1 ∙ (λ i. write_colour_leaves (W.first i) (W.second i) (W.room i))
-
-pub reads-colour-is : (words : List ℕ) (a : ColourReading) → ReadsColour words a → a ≡ colour_reading_of words
-reads-colour-is words a R = R.allowed ∙ ap colour_reading_of R.lent

@@ -21,8 +21,6 @@ use Rattle.refusal.specs.declared.Reason.TheVariants.{Wide, Parity, ReservedArea
 use Rattle.refusal.specs.declared.Refusal.{Refusal}
 use Rattle.refusal.proofs.Laws.Chain.{passed-other}
 use Rattle.anc.specs.Words.{fill_refusal}
-use Rattle.anc.specs.Packet.{user_of, front_refusal, made_refusal}
-use Rattle.colour.specs.Colour.{colour_refusal, write_refusal as write_colour_refusal, user_refusal, read_refusal as read_colour_refusal}
 use Rattle.soundness.specs.declared.Soundness.{Soundness}
 use Rattle.soundness.specs.declared.Soundness.TheVariants.{Sound, Unsound, Refused}
 use Rattle.soundness.specs.Check.{soundness_of, refusal_in as refusal_in_word, word_refusal, unsound_from, words_refusal}
@@ -293,31 +291,9 @@ pub layout-right : (ci : ℕ) (bytes : List ℕ) (room : ℕ) → RightIn 0 (lay
 unfolding given_refusal layout_refusal number_of
 layout-right ci bytes room = search checks
 
-pub front-right : {last : ℕ} (did sdid n : ℕ) (words : List ℕ) → RightIn last (front_refusal did sdid n words)
-unfolding front_refusal number_of
-front-right did sdid n words = search checks depth 8
-
-pub made-right : (room : ℕ) → RightIn 0 (made_refusal room)
-unfolding made_refusal number_of
-made-right room = search checks
-
-colour-right : {last : ℕ} (history field : ℕ) → RightIn last (colour_refusal history field)
-unfolding colour_refusal number_of
-colour-right history field = search checks
-
-pub write-colour-right : (history field room : ℕ) → RightIn 0 (write_colour_refusal history field room)
-unfolding write_colour_refusal number_of
-write-colour-right history field room = search (checks, colour-right)
-
-pub read-colour-right : (words : List ℕ) → RightIn 3 (read_colour_refusal words)
-unfolding read_colour_refusal user_refusal user_of number_of
-read-colour-right words =
-    next-right _ (front-right _ _ _ words)
-    (next-right _ (unsound-right 3 1 (take 3 (drop 6 words)) (omega arith) (omega (arith, take-most 3 (drop 6 words)))) (search (checks, colour-right)))
-
 head-right : {last : ℕ} (words : List ℕ) → RightIn last (head_refusal words)
 unfolding head_refusal number_of
-head-right words = search (checks, front-right)
+head-right words = search checks depth 8
 
 protected-right : (on : Bool) (guarded : List ℕ) → RightIn 248 (protected_refusal on guarded)
 unfolding protected_refusal number_of

@@ -1,4 +1,4 @@
--- Demand 1: the place of a refusal is the item's first byte for 11 to 14, a word's number for 7, a reserved byte's for 15, else 0. Of each public call that can refuse, under its name, with its
+-- Demand 1: the place of a refusal is the item's first byte for 11 to 14, a data word's number for 7, a reserved byte's for 15, else 0. Of each public call that can refuse, under its name, with its
 -- crate's where two share one; and of the calls for C. `Learnt` is the contract as its caller may use it.
 -- Assumes nothing.
 use mathlib.Core.Path.{refl, ◌∙◌}
@@ -14,10 +14,6 @@ use Rattle.refusal.specs.declared.Refusal.{Refusal}
 use Rattle.refusal.proofs.Laws.Number.{bits-seven, bits-le}
 use Rattle.refusal.proofs.Laws.Chain.{refusal-in}
 use Rattle.soundness.specs.Check.{refusal_in as refusal_in_word}
-use Rattle.colour.specs.declared.ColourReading.{ColourReading}
-use Rattle.colour.specs.declared.ColourReading.TheVariants.{Accepted as AcceptedColour, Refused as RefusedColour}
-use Rattle.colour.specs.Reading.{refusal_in as refusal_in_colour}
-use Rattle.colour.proofs.Laws.Colour.{refusal-said as colour-said}
 use Rattle.rs.specs.Codeword.{divided_of}
 use Rattle.rs.specs.Check.{refusal_in as refusal_in_verdict}
 use Rattle.rs.proofs.Laws.Check.{refusal-said as check-said}
@@ -40,10 +36,10 @@ use Rattle.reading.specs.declared.Reading.TheVariants.{Accepted, Refused}
 use Rattle.follower.specs.declared.Follower.{Follower}
 use Rattle.follower.specs.declared.Heard.{Heard}
 use Rattle.follower.specs.declared.Heard.TheVariants.{Accepted as Arrived, Refused as RefusedPacket}
-use Rattle.answers.specs.Answers.{answer_by, packet_from, colour_from, heard_from, followed_from}
-use Rattle.answers.proofs.Laws.Done.{Says, word-says, verdict-says, packet-says, colour-says, repaired-says, field-says, turn-says, followed-says}
+use Rattle.answers.specs.Answers.{answer_by, packet_from, heard_from, followed_from}
+use Rattle.answers.proofs.Laws.Done.{Says, word-says, verdict-says, packet-says, repaired-says, field-says, turn-says, followed-says}
 use Rattle.promises.specs.Places.{RightPlace, RightIn, BitsBeside, PlacesRight, AnswersRight, BitsRight}
-use Rattle.promises.proofs.Laws.Placed.{open-right, check-right, words_right, fill-right, front-right, made-right, write-colour-right, read-colour-right, block-right, decode-right, marked-right, place-right, item-right, record-right, written-right, put_right, store-right, repair-right, count-right, write-right, layout-right, read_right, into-right, step_right, back-right, undo-right, send-right, shown-right, pack-right, unpack-right}
+use Rattle.promises.proofs.Laws.Placed.{open-right, check-right, words_right, fill-right, block-right, decode-right, marked-right, place-right, item-right, record-right, written-right, put_right, store-right, repair-right, count-right, write-right, layout-right, read_right, into-right, step_right, back-right, undo-right, send-right, shown-right, pack-right, unpack-right}
 use Rattle.soundness.proofs.check_word.Kinds as check-word-types
 use Rattle.soundness.proofs.check_word.Reads as check-word-contract
 use Rattle.soundness.proofs.check_words.Kinds as check-words-types
@@ -52,14 +48,6 @@ use Rattle.anc.proofs.low_bytes.Kinds as low-bytes-types
 use Rattle.anc.proofs.low_bytes.Reads as low-bytes-contract
 use Rattle.anc.proofs.sound_words.Kinds as sound-words-types
 use Rattle.anc.proofs.sound_words.Reads as sound-words-contract
-use Rattle.anc.proofs.front_refusal.Kinds as front-refusal-types
-use Rattle.anc.proofs.front_refusal.Reads as front-refusal-contract
-use Rattle.anc.proofs.make_packet.Kinds as make-packet-types
-use Rattle.anc.proofs.make_packet.Reads as make-packet-contract
-use Rattle.colour.proofs.write_colour.Kinds as write-colour-types
-use Rattle.colour.proofs.write_colour.Reads as write-colour-contract
-use Rattle.colour.proofs.read_colour.Kinds as read-colour-types
-use Rattle.colour.proofs.read_colour.Reads as read-colour-contract
 use Rattle.rs.proofs.remainder.Kinds as remainder-types
 use Rattle.rs.proofs.remainder.Reads as remainder-contract
 use Rattle.rs.proofs.check_codeword.Kinds as check-codeword-types
@@ -124,10 +112,6 @@ use Rattle.capi.proofs.ay_read_packet.Kinds as ay-read-packet-types
 use Rattle.capi.proofs.ay_read_packet.Reads as ay-read-packet-contract
 use Rattle.capi.proofs.ay_read_packet_into.Kinds as ay-read-packet-into-types
 use Rattle.capi.proofs.ay_read_packet_into.Reads as ay-read-packet-into-contract
-use Rattle.capi.proofs.ay_write_colour.Kinds as ay-write-colour-types
-use Rattle.capi.proofs.ay_write_colour.Reads as ay-write-colour-contract
-use Rattle.capi.proofs.ay_read_colour.Kinds as ay-read-colour-types
-use Rattle.capi.proofs.ay_read_colour.Reads as ay-read-colour-contract
 use Rattle.capi.proofs.ay_repair.Kinds as ay-repair-types
 use Rattle.capi.proofs.ay_repair.Reads as ay-repair-contract
 use Rattle.capi.proofs.ay_check_codeword.Kinds as ay-check-codeword-types
@@ -159,12 +143,6 @@ low-bytes κs i a s p = rw (p.0, refusal-in) (fill-right _ _)
 pub sound-words : PlacesRight 2 sound-words-types.ps sound-words-types.r 0 (λ κs. refusal_in) sound-words-contract.Learnt
 sound-words κs i a s p = rw (p.0, refusal-in) (fill-right _ _)
 
-pub front-refusal : PlacesRight 1 front-refusal-types.ps front-refusal-types.r 0 (λ κs. refusal_in) front-refusal-contract.Learnt
-front-refusal κs i a s p = rw (p, refusal-in) (front-right _ _ _ _)
-
-pub make-packet : PlacesRight 1 make-packet-types.ps make-packet-types.r 0 (λ κs. refusal_in) make-packet-contract.Learnt
-make-packet κs i a s p = rw (p.0, refusal-in) (made-right _)
-
 -- ---- soundness
 
 pub check-word : PlacesRight 0 check-word-types.ps check-word-types.r 0 (λ κs. refusal_in_word) check-word-contract.Learnt
@@ -173,15 +151,6 @@ check-word κs i a s p = rw p (check-right _)
 -- of up to 255 words
 pub check-words : PlacesRight 1 check-words-types.ps check-words-types.r 255 (λ κs. refusal_in) check-words-contract.Learnt
 check-words κs i a s p = rw (p, refusal-in) (words_right _)
-
--- ---- colour
-
-pub write-colour : PlacesRight 1 write-colour-types.ps write-colour-types.r 0 (λ κs. refusal_in) write-colour-contract.Learnt
-write-colour κs i a s p = rw (p.0, refusal-in) (write-colour-right _ _ _)
-
--- of the three user words
-pub read-colour : PlacesRight 1 read-colour-types.ps read-colour-types.r 3 (λ κs. refusal_in_colour) read-colour-contract.Learnt
-read-colour κs i a s p = rw (p, colour-said) (read-colour-right _)
 
 -- ---- rs, search and plain
 
@@ -317,12 +286,6 @@ ay-read-packet κs i a s p = rw p (says-right (packet-says _) (rw read-said (rea
 pub ay-read-packet-into : AnswersRight 2 ay-read-packet-into-types.ps ay-read-packet-into-types.r 248 (λ κs a. a.number) (λ κs a. a.place) ay-read-packet-into-contract.Learnt
 ay-read-packet-into κs i a s p = rw p.0 (says-right (packet-says _) (rw into-said (into-right _ _)))
 
-pub ay-write-colour : AnswersRight 1 ay-write-colour-types.ps ay-write-colour-types.r 0 (λ κs a. a.number) (λ κs a. a.place) ay-write-colour-contract.Learnt
-ay-write-colour κs i a s p = rw p.0 (answer-right _ (write-colour-right _ _ _))
-
-pub ay-read-colour : AnswersRight 1 ay-read-colour-types.ps ay-read-colour-types.r 3 (λ κs a. a.number) (λ κs a. a.place) ay-read-colour-contract.Learnt
-ay-read-colour κs i a s p = rw p (says-right (colour-says _) (rw colour-said (read-colour-right _)))
-
 pub ay-repair : AnswersRight 2 ay-repair-types.ps ay-repair-types.r 0 (λ κs a. a.number) (λ κs a. a.place) ay-repair-contract.Learnt
 ay-repair κs i a s p = rw p.0 (says-right (repaired-says _) (rw repair-said (repair-right _ _)))
 
@@ -376,11 +339,6 @@ unfolding packet_from
 packet-bits (Accepted p) = no_bits
 packet-bits (Refused why) = reason-bits why.reason
 
-colour-bits : (a : ColourReading) → BitsBeside (colour_from a).number (colour_from a).bits
-unfolding colour_from
-colour-bits (AcceptedColour c) = no_bits
-colour-bits (RefusedColour why) = reason-bits why.reason
-
 heard-bits : (f : Follower) (h : Heard) → BitsBeside (heard_from f h).number (heard_from f h).bits
 unfolding heard_from
 heard-bits f (Arrived a) = no_bits
@@ -388,9 +346,6 @@ heard-bits f (RefusedPacket why) = reason-bits why.reason
 
 pub ay-read-packet-bits : BitsRight 1 ay-read-packet-types.ps ay-read-packet-types.r (λ κs a. a.number) (λ κs a. a.bits) ay-read-packet-contract.Learnt
 ay-read-packet-bits κs i a s p = rw p (packet-bits _)
-
-pub ay-read-colour-bits : BitsRight 1 ay-read-colour-types.ps ay-read-colour-types.r (λ κs a. a.number) (λ κs a. a.bits) ay-read-colour-contract.Learnt
-ay-read-colour-bits κs i a s p = rw p (colour-bits _)
 
 pub ay-read-packet-into-bits : BitsRight 2 ay-read-packet-into-types.ps ay-read-packet-into-types.r (λ κs a. a.number) (λ κs a. a.bits) ay-read-packet-into-contract.Learnt
 ay-read-packet-into-bits κs i a s p = rw p.0 (packet-bits _)

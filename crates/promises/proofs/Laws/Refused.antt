@@ -11,8 +11,6 @@ use Rattle.refusal.specs.Number.{fixed_list, retired, number_of}
 use Rattle.refusal.specs.declared.Refusal.{Refusal}
 use Rattle.refusal.proofs.Laws.Number.{number-on-list, not-retired}
 use Rattle.anc.specs.Words.{low_bytes, sound_words, fill_refusal, fill_leaves}
-use Rattle.anc.specs.Packet.{made_refusal, made_leaves}
-use Rattle.colour.specs.Colour.{write_refusal as write_colour_refusal, write_leaves as write_colour_leaves}
 use Rattle.rs.specs.Decode.{decode_refusal}
 use Rattle.rs.proofs.Laws.Decode.{refused-keeps}
 use Rattle.search.specs.Marked.{marked_refusal}
@@ -51,10 +49,6 @@ use Rattle.anc.proofs.low_bytes.Kinds as low-bytes-types
 use Rattle.anc.proofs.low_bytes.Reads as low-bytes-contract
 use Rattle.anc.proofs.sound_words.Kinds as sound-words-types
 use Rattle.anc.proofs.sound_words.Reads as sound-words-contract
-use Rattle.anc.proofs.make_packet.Kinds as make-packet-types
-use Rattle.anc.proofs.make_packet.Reads as make-packet-contract
-use Rattle.colour.proofs.write_colour.Kinds as write-colour-types
-use Rattle.colour.proofs.write_colour.Reads as write-colour-contract
 use Rattle.search.proofs.repair.Kinds as search-repair-types
 use Rattle.search.proofs.repair.Reads as search-repair-contract
 use Rattle.search.proofs.repair_marked.Kinds as repair-marked-types
@@ -93,8 +87,6 @@ use Rattle.capi.proofs.ay_write_packet.Kinds as ay-write-packet-types
 use Rattle.capi.proofs.ay_write_packet.Reads as ay-write-packet-contract
 use Rattle.capi.proofs.ay_read_packet_into.Kinds as ay-read-packet-into-types
 use Rattle.capi.proofs.ay_read_packet_into.Reads as ay-read-packet-into-contract
-use Rattle.capi.proofs.ay_write_colour.Kinds as ay-write-colour-types
-use Rattle.capi.proofs.ay_write_colour.Reads as ay-write-colour-contract
 use Rattle.capi.proofs.ay_repair.Kinds as ay-repair-types
 use Rattle.capi.proofs.ay_repair.Reads as ay-repair-contract
 use Rattle.capi.proofs.ay_pack.Kinds as ay-pack-types
@@ -148,14 +140,6 @@ field-unpack κs i a s p (why, e) = p.1 ∙ kept _ why _ _ (sym (unpack-said i.0
 -- a check that an answer tells
 checked-said : (o : Option Refusal) (a : Checked) (why : Refusal) → a ≡ checked_of o → refusal_in a ≡ some why → o ≡ some why
 checked-said o a why p e = sym (refusal-in o) ∙ ap refusal_in (sym p) ∙ e
-
-pub make-packet : RefusedKeeps 1 make-packet-types.ps make-packet-types.r (λ κs. Tells refusal_in) (λ κs i. i.1.1.0.now) (λ κs s. s.1.1.0.now) make-packet-contract.Learnt
-unfolding made_leaves
-make-packet κs i a s p (why, e) = p.1 ∙ kept _ why _ _ (checked-said (made_refusal (length i.1.1.0.now)) a why p.0 e)
-
-pub write-colour : RefusedKeeps 1 write-colour-types.ps write-colour-types.r (λ κs. Tells refusal_in) (λ κs i. i.1.1.0.now) (λ κs s. s.1.1.0.now) write-colour-contract.Learnt
-unfolding write_colour_leaves
-write-colour κs i a s p (why, e) = p.1 ∙ kept _ why _ _ (checked-said (write_colour_refusal i.0 i.1.0 (length i.1.1.0.now)) a why p.0 e)
 
 pub store-item : RefusedKeeps 2 store-item-types.ps store-item-types.r (λ κs. Tells refusal_in) (λ κs i. i.1.1.0.now) (λ κs s. s.1.1.0.now) store-item-contract.Learnt
 unfolding store_leaves
@@ -215,10 +199,6 @@ pub ay-read-packet-into : RefusedKeeps 2 ay-read-packet-into-types.ps ay-read-pa
 unfolding read_leaves
 ay-read-packet-into κs i a s p z =
     p.1 ∙ kept-for-c _ _ a.number _ _ (ap (λ (x : AyPacket). x.number) p.0 ∙ (packet-says _).number_is) (read-said i.0.now (length i.1.0.now)) z
-
-pub ay-write-colour : RefusedKeeps 1 ay-write-colour-types.ps ay-write-colour-types.r (λ κs a. NotZero a.number) (λ κs i. i.1.1.0.now) (λ κs s. s.1.1.0.now) ay-write-colour-contract.Learnt
-unfolding write_colour_leaves
-ay-write-colour κs i a s p z = p.1 ∙ kept-for-c _ _ a.number _ _ (ap (λ (x : AyAnswer). x.number) p.0) refl z
 
 pub ay-repair : RefusedKeeps 2 ay-repair-types.ps ay-repair-types.r (λ κs a. NotZero a.number) (λ κs i. i.1.0.now) (λ κs s. s.1.0.now) ay-repair-contract.Learnt
 unfolding repair_leaves

@@ -12,8 +12,7 @@ use Rattle.anc.specs.Word.{word_of, with_b9, bit, ones, parity_of as even_parity
 use Rattle.anc.specs.Words.{sound_words, flag}
 use Rattle.rs.specs.Polynomial.{◌⊞◌, scale}
 use Rattle.rs.specs.Codeword.{parity_of, remainder, next, divisor_bytes}
-use Rattle.anc.specs.Packet.{from_did, packet_of_kind}
-use Rattle.writing.specs.Layout.{header_word, protected_words, user_words, packet_words}
+use Rattle.writing.specs.Layout.{kind, header_word, protected_words, summed_words, packet_words}
 use Rattle.writing.proofs.Laws.Layout.{packet-carries}
 use Rattle.reading.specs.Reading.{correction_of}
 use Rattle.reading.proofs.Laws.Carried.{carried-correction}
@@ -49,5 +48,5 @@ hand = record { bytes = replicate 43 0 ++ 1 ∷ replicate 204 0; ci = 200; steps
 
 pub hand-words : (old : List ℕ) (t : Turn) (left : List ℕ) → Sends hand old t left → length old ≡ 262
     → left ≡ (0x000 ∷ 0x3FF ∷ 0x3FF ∷ 0x25F ∷ 0x1FE ∷ 0x2FF ∷ 0x288 ∷ []) ++ replicate 43 0x200 ++ 0x101 ∷ replicate 204 0x200 ++ (0x1E0 ∷ 0x176 ∷ 0x1F8 ∷ 0x126 ∷ 0x1DC ∷ 0x295 ∷ 0x1CA ∷ [])
-unfolding packet_words packet_of_kind from_did user_words flag header_word protected_words sound_words word_of with_b9 bit ones even_parity total checksum_of parity_of remainder next divisor_bytes ◌⊞◌ scale ◌⊗◌ by_bits double ◌⊕◌
+unfolding packet_words summed_words kind flag header_word protected_words sound_words word_of with_b9 bit ones even_parity total checksum_of parity_of remainder next divisor_bytes ◌⊞◌ scale ◌⊗◌ by_bits double ◌⊕◌
 hand-words old t left S n = (sent-as-they-stand hand old t left S).words n

@@ -22,17 +22,12 @@ use Rattle.rs.specs.Polynomial.{◌⊞◌, scale}
 use Rattle.rs.specs.Codeword.{parity_of, remainder, next, divisor_bytes}
 use Rattle.rules.specs.Rules.{station_rule, station_byte, sound_byte, sound_rule, one_of, picture_rule, picture_clean, low_half, time_rule, time_byte, decimal}
 use Rattle.anc.specs.Words.{sound_words, flag, narrow, has_flag, low_bytes}
-use Rattle.anc.specs.Packet.{from_did, packet_of_kind, summed_with, sum_right, front_refusal}
-use Rattle.writing.specs.Layout.{packet_words, user_words, header_word, protected_words}
-use Rattle.colour.specs.Tables.{history_of, field_of}
-use Rattle.colour.specs.Colour.{field_fits, colour_refusal}
-use Rattle.colour.proofs.Laws.RoundTrip.{written-reads}
-use Rattle.colour.proofs.Laws.Values.{nothing, pal-5}
+use Rattle.writing.specs.Layout.{packet_words, summed_words, kind, header_word, protected_words}
 use Rattle.basics.specs.Each.{all, same}
 use Rattle.refusal.specs.Run.{first_from}
 use Rattle.record.specs.Reserved.{reserved_area, reserved_refusal}
 use Rattle.record.specs.Record.{broken, content_refusal, laid_out, record_of}
-use Rattle.reading.specs.Reading.{correction_of, index_of, protected_of, read_words, read_bytes, read_user, read_fixed, head_refusal, protected_refusal, body_refusal, read_refusal, read_record}
+use Rattle.reading.specs.Reading.{correction_of, index_of, protected_of, read_words, read_bytes, summed_of, read_fixed, head_refusal, protected_refusal, body_refusal, read_refusal, read_record}
 use Rattle.reading.specs.Answer.{packet_of, reading_of}
 use Rattle.items.specs.Items.{items, part}
 use Rattle.items.specs.Item.{row_of, put, put_in, put_item}
@@ -149,7 +144,7 @@ three-two-again h e u =
 -- ---- the table
 
 pub values : Values
-unfolding opening items row_of put put_in put_item packet_words packet_of_kind from_did user_words field_fits colour_refusal history_of field_of flag header_word protected_words sound_words word_of with_b9 bit ones even_parity total checksum_of parity_of remainder next divisor_bytes ◌⊞◌ scale ◌⊗◌ by_bits double ◌⊕◌ station_rule station_byte sound_byte sound_rule one_of picture_rule picture_clean low_half time_rule time_byte decimal is_sound b8_right b9_right soundness_of unsound_from first_from all same narrow has_flag low_bytes part broken reserved_area reserved_refusal content_refusal laid_out record_of correction_of index_of protected_of read_words read_bytes read_user summed_with sum_right read_fixed front_refusal head_refusal protected_refusal body_refusal read_refusal read_record packet_of reading_of
+unfolding opening items row_of put put_in put_item packet_words summed_words kind flag header_word protected_words sound_words word_of with_b9 bit ones even_parity total checksum_of parity_of remainder next divisor_bytes ◌⊞◌ scale ◌⊗◌ by_bits double ◌⊕◌ station_rule station_byte sound_byte sound_rule one_of picture_rule picture_clean low_half time_rule time_byte decimal is_sound b8_right b9_right soundness_of unsound_from first_from all same narrow has_flag low_bytes part broken reserved_area reserved_refusal content_refusal laid_out record_of correction_of index_of protected_of read_words read_bytes summed_of read_fixed head_refusal protected_refusal body_refusal read_refusal read_record packet_of reading_of
 values = record {
   byte_85 = refl;
   byte_0f = refl;
@@ -160,9 +155,6 @@ values = record {
   fresh_off = refl;
   fresh_off_read = refl;
   fresh_off_record = refl;
-  colour_nothing = nothing;
-  colour_pal_5 = pal-5;
-  colour_pal_5_read = written-reads 6 5 refl;
   sound_92 = refl;
   sound_89 = refl;
   sound_32 = refl;

@@ -23,8 +23,6 @@ use Rattle.refusal.specs.Checked.{checked_of}
 use Rattle.soundness.specs.Check.{soundness_of, words_refusal}
 use Rattle.rs.specs.Check.{verdict_of}
 use Rattle.writing.specs.Written.{written_of, write_leaves}
-use Rattle.colour.specs.Colour.{write_refusal as write_colour_refusal, write_leaves as write_colour_leaves}
-use Rattle.colour.specs.Reading.{colour_reading_of}
 use Rattle.repair.specs.Repair.{repaired_of, repair_leaves}
 use Rattle.rs.specs.Marked.{marks_in}
 use Rattle.search.specs.Marked.{confessed}
@@ -41,7 +39,7 @@ use Rattle.follower.proofs.Laws.Count.{counted-true}
 use Rattle.lines.specs.Shown.{shown}
 use Rattle.lines.proofs.Laws.Shown.{shown-sized}
 use Rattle.promises.specs.Calls.{Opens, Edits, Undoes, Sends, Begins, Follows, Looks, LooksInto, Shows}
-use Rattle.promises.specs.PacketCalls.{ChecksWord, ChecksWords, ChecksCodeword, Writes, ReadsPacket, ReadsInto, Repairs, WritesColour, ReadsColour}
+use Rattle.promises.specs.PacketCalls.{ChecksWord, ChecksWords, ChecksCodeword, Writes, ReadsPacket, ReadsInto, Repairs}
 use Rattle.promises.specs.Line.{Delivers, Fate, unsent, waiting, dropped, delivered, Sent, Scene, opening as start, sent as send-to, turned, lost, heard, Line, opens, turns, sends, no_room, drops, delivers, repeats, repeats-earlier}
 use Rattle.promises.specs.History.{edits, undoes}
 use Rattle.promises.proofs.Laws.Line.{Ordinary, waiting-ordinary, latest-ordinary, earlier-ordinary, demand-3}
@@ -142,23 +140,6 @@ read-into-call words old =
       leaves = refl;
       allowed = (refl, refl);
     }
-
-pub write-colour-call : (history field : ℕ) (old : List ℕ)
-    → WritesColour history field old (checked_of (write_colour_refusal history field (length old))) (write_colour_leaves history field old)
-write-colour-call history field old =
-    record {
-      κs = ([], tt);
-      input = (history, (field, (lend old, tt)));
-      exit = (history, (field, (lend (write_colour_leaves history field old), tt)));
-      first = refl;
-      second = refl;
-      room = refl;
-      leaves = refl;
-      allowed = (refl, refl);
-    }
-
-pub read-colour-call : (words : List ℕ) → ReadsColour words (colour_reading_of words)
-read-colour-call words = record { κs = ([], tt); input = (lend words, tt); exit = (lend words, tt); lent = refl; allowed = refl }
 
 pub repair-call : (words old : List ℕ) → Repairs words old (repaired_of words (length old)) (repair_leaves words old)
 repair-call words old =

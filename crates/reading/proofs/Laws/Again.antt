@@ -13,55 +13,64 @@ use lib.Pow.{field, mod-mod-pow}
 use native.Mathlib.Nat.{suc_inj}
 use lib.ListN.{length, take, drop, replicate, length-drop, take-append-drop}
 use lib.Seq.{length-take-le}
-use Rattle.anc.specs.Word.{word_of, is_sound}
+use Rattle.anc.specs.Word.{word_of, is_sound, checksum_of}
 use Rattle.anc.proofs.Laws.Word.{sound-is-word}
 use Rattle.soundness.proofs.Laws.Run.{passed-sound}
 use Rattle.basics.specs.Each.{all}
 use Rattle.basics.proofs.Laws.Test.{both_true, lt-or-le}
-use Rattle.basics.proofs.Laws.Parts.{part-entries, same-cons}
+use Rattle.basics.proofs.Laws.Parts.{part-entries, same-cons, last_one}
 use Rattle.refusal.proofs.Laws.Chain.{require-passed, next-passed}
 use Rattle.rs.specs.Codeword.{parity_of, Codeword}
 use Rattle.record.specs.Record.{content_refusal}
 use Rattle.repair.specs.Protected.{repaired, rewritten}
-use Rattle.anc.specs.Words.{low_bytes, sound_words}
-use Rattle.writing.specs.Layout.{did, sdid, header_word, protected_words, user_words, packet_words}
-use Rattle.anc.proofs.Laws.Words.{low-words, sound_words-length}
-use Rattle.anc.proofs.Laws.Packet.{Front, front-parts, packet-again}
+use Rattle.anc.specs.Words.{flag, low_bytes, sound_words, narrow}
+use Rattle.writing.specs.Layout.{header_word, protected_words, summed_words, packet_words}
+use Rattle.anc.proofs.Laws.Words.{flag-words, low-words}
 use Rattle.repair.proofs.Laws.Repair.{repaired-codeword}
-use Rattle.writing.proofs.Laws.Layout.{protected-on}
-use Rattle.anc.specs.Packet.{packet_of_kind, word, sum_right, front_refusal}
-use Rattle.reading.specs.Reading.{correction_of, index_of, protected_of, read_words, read_bytes, read_user, is_fill, head_refusal, protected_refusal, body_refusal, read_refusal, rewritten_packet}
+use Rattle.writing.proofs.Laws.Layout.{packet-carries, summed-shape, protected-on}
+use Rattle.reading.specs.Reading.{word, correction_of, index_of, protected_of, read_words, read_bytes, summed_of, is_fill, head_refusal, protected_refusal, body_refusal, read_refusal, rewritten_packet}
 
 -- ---- what an accepted packet has passed
 
--- where nothing up to the header is refused, the words up to the count are as they should be
-pub head-front : (ws : List ℕ) → head_refusal ws ≡ none → Front did sdid 255 ws
-unfolding head_refusal
-head-front ws e = front-parts did sdid 255 ws (next-passed (front_refusal did sdid 255 ws) _ e).0
-
 pub record Accepted (ws : List ℕ) : Type 0 where
-  pub front : Front did sdid 255 ws
+  pub long : length ws ≡ 262
+  pub slim : narrow ws ≡ true
+  pub flagged : take 3 ws ≡ flag
+  pub did : word ws 3 ≡ 0x25F
+  pub sdid : word ws 4 ≡ 0x1FE
+  pub count : word ws 5 ≡ 0x2FF
   pub sound : is_sound (word ws 6) ≡ true
   pub zero_bits : word ws 6 / 16 % 8 ≡ 0
   pub guarded : protected_refusal (correction_of ws) (protected_of ws) ≡ none
-  pub sum : sum_right 255 ws (read_user ws) ≡ true
+  pub sum : checksum_of (summed_of ws) ≡ word ws 261
   pub rules : content_refusal (read_bytes ws) ≡ none
 
 pub accepted-parts : (ws : List ℕ) → read_refusal ws ≡ none → Accepted ws
 unfolding read_refusal head_refusal body_refusal
 accepted-parts ws e =
-    let halves = next-passed (head_refusal ws) _ e in
-    let header = require-passed _ _ _ (next-passed (front_refusal did sdid 255 ws) _ halves.0).1 in
-    let guard = next-passed _ _ halves.1 in
-    let sum = require-passed _ _ _ guard.1 in
-    let heads = both_true _ _ header.0 in
+    let halves = next-passed _ _ e in
+    let a = require-passed _ _ _ halves.0 in
+    let b = require-passed _ _ _ a.1 in
+    let c = require-passed _ _ _ b.1 in
+    let d = require-passed _ _ _ c.1 in
+    let f = require-passed _ _ _ d.1 in
+    let g = require-passed _ _ _ f.1 in
+    let h = next-passed _ _ halves.1 in
+    let i = require-passed _ _ _ h.1 in
+    let kinds = both_true _ _ d.0 in
+    let heads = both_true _ _ g.0 in
     record {
-      front = head-front ws halves.0;
+      long = eqb-true _ _ a.0;
+      slim = b.0;
+      flagged = flag-words ws c.0;
+      did = eqb-true _ _ kinds.0;
+      sdid = eqb-true _ _ kinds.1;
+      count = eqb-true _ _ f.0;
       sound = heads.0;
       zero_bits = eqb-true _ _ heads.1;
-      guarded = guard.0;
-      sum = sum.0;
-      rules = sum.1;
+      guarded = h.0;
+      sum = eqb-true _ _ i.0;
+      rules = i.1;
     }
 
 -- ---- the header
@@ -121,14 +130,6 @@ pub length_part : (ws : List ℕ) → length ws ≡ 262 → length (protected_of
 unfolding protected_of
 length_part ws n = length-take-le 254 (drop 7 ws) (omega (arith, length-drop 7 ws))
 
--- the protected words as they are read are 254
-pub length-read : (ws : List ℕ) → Accepted ws → (on : Bool) → correction_of ws ≡ on → length (read_words ws) ≡ 254
-unfolding read_words protected_refusal rewritten
-length-read ws A true e =
-    let p = require-passed _ _ _ (rw e at A.guarded) in
-    rw e (sound_words-length _ ∙ (repaired-codeword (protected_of ws) p.0).long)
-length-read ws A false e = rw e (length_part ws A.front.long)
-
 -- the protected words as they are read are those of the bytes that are read
 protected-again : (ws : List ℕ) → Accepted ws → (on : Bool) → correction_of ws ≡ on → protected_words on (read_bytes ws) ≡ read_words ws
 unfolding protected_refusal read_bytes read_words rewritten
@@ -138,17 +139,23 @@ protected-again ws A true e =
 protected-again ws A false e =
     let p = next-passed _ _ (rw e at A.guarded) in
     let q = require-passed _ _ _ p.1 in
-    rw e (off-again (protected_of ws) (length_part ws A.front.long) (passed-sound 1 (take 248 (protected_of ws)) p.0) q.0)
+    rw e (off-again (protected_of ws) (length_part ws A.long) (passed-sound 1 (take 248 (protected_of ws)) p.0) q.0)
 
 -- an accepted packet's rewritten words are the layout of the bytes that are read
 pub again : (ws : List ℕ) → read_refusal ws ≡ none → packet_words (correction_of ws) (index_of ws) (read_bytes ws) ≡ rewritten_packet ws
-unfolding correction_of index_of packet_words user_words read_user rewritten_packet
+unfolding correction_of index_of summed_of flag rewritten_packet
 again ws e =
     let A = accepted-parts ws e in
     let on : Bool = correction_of ws in
-    let n : 7 ≤ length ws = omega (arith, A.front.long) in
-    let user : user_words on (index_of ws) (read_bytes ws) ≡ read_user ws = same-cons (header-again (word ws 6) on A.sound A.zero_bits refl) (protected-again ws A on refl) in
-    ap (packet_of_kind did sdid) user
-    ∙ packet-again did sdid 255 ws A.front (read_user ws) (ap suc (length-read ws A on refl)) A.sum
-    ∙ ap (λ (l : List ℕ). l ++ (read_user ws ++ drop 261 ws)) (part-entries 6 0 ws (omega arith))
-    ∙ ap (λ (l : List ℕ). l ++ read_words ws ++ drop 261 ws) (sym (part-entries 7 0 ws n))
+    let r : List ℕ = read_bytes ws in
+    let h : header_word on (index_of ws) ≡ word ws 6 = header-again (word ws 6) on A.sound A.zero_bits refl in
+    let p : protected_words on r ≡ read_words ws = protected-again ws A on refl in
+    let n : 7 ≤ length ws = omega (arith, A.long) in
+    let front : flag ≡ word ws 0 ∷ word ws 1 ∷ word ws 2 ∷ [] = sym A.flagged ∙ part-entries 3 0 ws (omega arith) in
+    let from-did : (l m : List ℕ) → l ≡ m → 0x25F ∷ 0x1FE ∷ 0x2FF ∷ header_word on (index_of ws) ∷ l ≡ word ws 3 ∷ word ws 4 ∷ word ws 5 ∷ word ws 6 ∷ m =
+    λ l m t. same-cons (sym A.did) (same-cons (sym A.sdid) (same-cons (sym A.count) (same-cons h t))) in
+    let s : summed_words on (index_of ws) r ≡ summed_of ws =
+    summed-shape on (index_of ws) r ∙ from-did _ _ p ∙ ap (λ (l : List ℕ). l ++ read_words ws) (sym (part-entries 4 3 ws n)) in
+    packet-carries on (index_of ws) r
+    ∙ ap₂ (λ (x y : List ℕ). x ++ y) front (from-did _ _ (ap₂ (λ (l : List ℕ) (c : ℕ). l ++ c ∷ []) p (ap checksum_of s ∙ A.sum)))
+    ∙ ap₂ (λ (l m : List ℕ). l ++ read_words ws ++ m) (sym (part-entries 7 0 ws n)) (sym (last_one ws 261 A.long))

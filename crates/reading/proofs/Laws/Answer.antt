@@ -2,15 +2,14 @@
 -- Assumes nothing.
 use mathlib.Core.Path.{◌≡◌, refl, sym, ap, ap₂, ◌∙◌}
 use mathlib.Core.Bool.{Bool, true, false, cond}
-use mathlib.Core.List.{List}
+use mathlib.Core.List.{List, ◌++◌}
 use mathlib.Core.Option.{Option, none, some}
 use Prim.Native.Nat.{ℕ}
 use native.Mathlib.Omega.{arith}
 use borrow.Author.Tests.{eqb-true, eq-eqb}
 use lib.Dec.{eqb}
-use lib.ListN.{length, take}
+use lib.ListN.{length, take, drop}
 use lib.Seq.{length-take-le}
-use Rattle.basics.proofs.Laws.Parts.{same-cons}
 use Rattle.refusal.specs.Chain.{require, next}
 use Rattle.refusal.specs.Number.{refusal_plain}
 use Rattle.refusal.specs.declared.Refusal.{Refusal}
@@ -25,8 +24,8 @@ use Rattle.refusal.specs.declared.Checked.TheVariants.{Passed, Refused}
 use Rattle.repair.specs.Protected.{repaired, rewritten, fixed_of}
 use Rattle.anc.specs.Words.{sound_words}
 use Rattle.refusal.specs.Chain.{left_by}
-use Rattle.reading.specs.Reading.{correction_of, index_of, protected_of, read_words, read_bytes, read_user, read_fixed, head_refusal, protected_refusal, body_refusal, read_refusal, read_into_refusal, read_record}
-use Rattle.reading.specs.Answer.{guard_bytes, user_by, packet_by, tail_refusal, refusal_in, packet_in, packet_of, reading_by, reading_of, reading_into_of, read_leaves}
+use Rattle.reading.specs.Reading.{correction_of, index_of, protected_of, read_words, read_bytes, summed_of, read_fixed, head_refusal, protected_refusal, body_refusal, read_refusal, read_into_refusal, read_record}
+use Rattle.reading.specs.Answer.{guard_bytes, summed_by, packet_by, tail_refusal, refusal_in, packet_in, packet_of, reading_by, reading_of, reading_into_of, read_leaves}
 use Rattle.reading.specs.declared.Packet.{Packet}
 use Rattle.reading.specs.declared.Reading.{Reading}
 use Rattle.reading.specs.declared.Reading.TheVariants.{Accepted, Refused as RefusedReading}
@@ -34,7 +33,7 @@ use Rattle.anc.proofs.Laws.Words.{low-words}
 use Rattle.repair.proofs.Laws.Repair.{repaired-bytes}
 use Rattle.record.proofs.Laws.Reserved.{content-decides}
 use Rattle.reading.proofs.Laws.Reader.{guard_bytes-length}
-use Rattle.reading.proofs.Laws.Again.{head-front, accepted-parts, length_part}
+use Rattle.reading.proofs.Laws.Again.{accepted-parts, length_part}
 
 -- ---- the bytes that are read stand for the words that are read
 
@@ -42,9 +41,9 @@ sound-guard : (q : List ℕ) → sound_words (guard_bytes true q) ≡ rewritten 
 unfolding guard_bytes rewritten
 sound-guard q = ap sound_words (low-words (repaired q) (repaired-bytes q))
 
-user-guard : (ws : List ℕ) → user_by (correction_of ws) ws (guard_bytes (correction_of ws) (protected_of ws)) ≡ read_user ws
-unfolding user_by read_user read_words
-user-guard ws = same-cons refl (go (correction_of ws))
+summed-guard : (ws : List ℕ) → summed_by (correction_of ws) ws (guard_bytes (correction_of ws) (protected_of ws)) ≡ summed_of ws
+unfolding summed_by summed_of read_words
+summed-guard ws = ap (λ (l : List ℕ). take 4 (drop 3 ws) ++ l) (go (correction_of ws))
   where
     go : (on : Bool) → cond on (sound_words (guard_bytes on (protected_of ws))) (protected_of ws) ≡ cond on (rewritten (protected_of ws)) (protected_of ws)
     go true = sound-guard (protected_of ws)
@@ -65,7 +64,7 @@ data-rules ws n =
 body-cut : (ws : List ℕ) → length ws ≡ 262
     → body_refusal ws ≡ next (protected_refusal (correction_of ws) (protected_of ws)) (tail_refusal ws (correction_of ws) (guard_bytes (correction_of ws) (protected_of ws)))
 unfolding body_refusal tail_refusal
-body-cut ws n = sym (rw (user-guard ws, data-rules ws n) refl)
+body-cut ws n = sym (rw (summed-guard ws, data-rules ws n) refl)
 
 module _ (ws : List ℕ) (on : Bool) (g : Checked) (n : length ws ≡ 262) (eo : on ≡ correction_of ws) (eg : g ≡ checked_of (protected_refusal on (protected_of ws))) where
   same : protected_refusal (correction_of ws) (protected_of ws) ≡ protected_refusal on (protected_of ws)
@@ -84,7 +83,8 @@ module _ (ws : List ℕ) (on : Bool) (g : Checked) (n : length ws ≡ 262) (eo :
 
 module _ (ws : List ℕ) (h : Checked) (eh : h ≡ checked_of (head_refusal ws)) where
   pub head-long : h ≡ Passed → length ws ≡ 262
-  head-long p = (head-front ws (told (head_refusal ws) h Passed eh p)).long
+  unfolding head_refusal
+  head-long p = eqb-true _ _ (require-passed _ _ _ (told (head_refusal ws) h Passed eh p)).0
 
   pub whole-passed : (b : Checked) → h ≡ Passed → b ≡ checked_of (body_refusal ws) → b ≡ checked_of (read_refusal ws)
   unfolding read_refusal
@@ -115,7 +115,7 @@ module _ (ws : List ℕ) (a : Checked) (ea : a ≡ checked_of (read_refusal ws))
   passes p = told (read_refusal ws) a Passed ea p
 
   pub answer-long : a ≡ Passed → length ws ≡ 262
-  answer-long p = (accepted-parts ws (passes p)).front.long
+  answer-long p = (accepted-parts ws (passes p)).long
 
   -- the bytes that the checks left
   pub answer-bytes : (bytes old : List ℕ) → a ≡ Passed → bytes ≡ left_by (head_refusal ws) (guard_bytes (correction_of ws) (protected_of ws)) old

@@ -1,26 +1,26 @@
 -- What a reader finds of a packet as it is written: the same record, index and correction bit, also where protected words were changed on the
 -- way and are read as they were written.
 -- Assumes nothing.
-use mathlib.Core.Path.{◌≡◌, refl, ap, ap₂, ◌∙◌}
+use mathlib.Core.Path.{◌≡◌, refl, sym, ap, ap₂, ◌∙◌}
 use mathlib.Core.Bool.{Bool, true, ◌&&◌}
-use mathlib.Core.List.{List, ◌∷◌}
+use mathlib.Core.List.{List, [], ◌∷◌}
 use mathlib.Core.Option.{none}
-use Prim.Native.Nat.{ℕ, suc, ◌/◌, ◌%◌, ◌≤◌}
+use Prim.Native.Nat.{ℕ, ◌/◌, ◌%◌, ◌≤◌}
+use native.Mathlib.Omega.{arith}
 use borrow.Author.Tests.{eq-eqb}
 use lib.Dec.{eqb, lit<}
-use lib.ListN.{length, take}
-use lib.Seq.{take_at}
+use lib.ListN.{length, get_or, take, length-append}
+use lib.Seq.{take_at, get_or_at}
+use Rattle.basics.specs.Each.{all, same}
 use Rattle.basics.specs.Below.{Bytes}
-use Rattle.basics.proofs.Laws.Parts.{same-cons}
-use Rattle.anc.specs.Word.{is_sound}
-use Rattle.anc.specs.Words.{low_bytes, narrow}
-use Rattle.anc.specs.Packet.{sum_right}
-use Rattle.anc.proofs.Laws.Words.{narrow-cons}
-use Rattle.anc.proofs.Laws.Packet.{carried-front, carried-sum as user-sum}
+use Rattle.anc.specs.Word.{is_sound, checksum_of}
+use Rattle.anc.specs.Words.{flag, has_flag, low_bytes, narrow}
+use Rattle.anc.proofs.Laws.Checksum.{checksum-lt}
+use Rattle.anc.proofs.Laws.Words.{narrow-cons, narrow-append}
 use Rattle.record.specs.Record.{content_refusal, record_of}
-use Rattle.writing.specs.Layout.{did, sdid, header_word, protected_words, user_words, carrying}
-use Rattle.writing.proofs.Laws.Layout.{protected-bytes, user-long, header-low, header-lt, header-sound, header-b7, header-zero, header-index}
-use Rattle.reading.specs.Reading.{correction_of, index_of, protected_of, read_words, read_bytes, read_user, head_refusal, protected_refusal, body_refusal, read_refusal, read_record}
+use Rattle.writing.specs.Layout.{header_word, protected_words, summed_words, carrying}
+use Rattle.writing.proofs.Laws.Layout.{protected-bytes, summed-shape, header-low, header-lt, header-sound, header-b7, header-zero, header-index}
+use Rattle.reading.specs.Reading.{correction_of, index_of, protected_of, read_words, read_bytes, summed_of, head_refusal, protected_refusal, body_refusal, read_refusal, read_record}
 
 -- the packet is accepted, with this correction bit, index and data bytes, and with their record
 pub record Reads (words : List ℕ) (on : Bool) (ci : ℕ) (r : List ℕ) : Type 0 where
@@ -46,22 +46,24 @@ module _ (on : Bool) (ci : ℕ) (r q : List ℕ) (hc : ci ≤ 15) (nr : length r
   abbrev ws : List ℕ
   ws = carrying on ci r q
 
-  abbrev user : List ℕ
-  user = user_words on ci r
-
   pub carried-protected : protected_of ws ≡ q
   unfolding protected_of
   carried-protected = take_at q _ 254 nq
 
+  carried-length : length ws ≡ 262
+  carried-length = omega (arith, length-append q (checksum_of (summed_words on ci r) ∷ []))
+
+  carried-narrow : narrow ws ≡ true
+  carried-narrow =
+      narrow-cons _ _ (lit< tt)
+      (narrow-cons _ _ (lit< tt) (narrow-cons _ _ (lit< tt) (narrow-cons _ _ (lit< tt) (narrow-cons _ _ (lit< tt) (narrow-cons _ _ (lit< tt)
+      (narrow-cons _ _ (header-lt on ci hc) (narrow-append q _ wq (narrow-cons _ [] (checksum-lt _) (unfold narrow all in refl)))))))))
+
+  carried-last : get_or ws 261 0 ≡ checksum_of (summed_words on ci r)
+  carried-last = get_or_at q (checksum_of (summed_words on ci r)) [] 0 254 nq
+
   carried-header : is_sound (header_word on ci) && eqb (header_word on ci / 16 % 8) 0 ≡ true
   carried-header = ap₂ ◌&&◌ (header-sound on ci hc) (eq-eqb _ 0 (header-zero on ci (header_word on ci) hc (header-low on ci hc)))
-
-  carried-head : head_refusal ws ≡ none
-  unfolding head_refusal
-  carried-head =
-      let nu : length user ≡ 255 = user-long on ci r nr in
-      let front = carried-front did sdid user (header_word on ci ∷ q) 255 (ap suc nq) (lit< tt) (lit< tt) (lit< tt) nu (narrow-cons _ q (header-lt on ci hc) wq) in
-      rw (front, carried-header)
 
   module _ (w : read_words ws ≡ protected_words on r) where
     carried-bytes : read_bytes ws ≡ r
@@ -72,11 +74,11 @@ module _ (on : Bool) (ci : ℕ) (r q : List ℕ) (hc : ci ≤ 15) (nr : length r
     unfolding read_record
     carried-record = ap record_of carried-bytes
 
-    carried-sum : sum_right 255 ws (read_user ws) ≡ true
-    unfolding read_user user_words
+    carried-sum : eqb (checksum_of (summed_of ws)) (get_or ws 261 0) ≡ true
+    unfolding summed_of
     carried-sum =
-        ap (sum_right 255 ws) (same-cons refl w)
-        ∙ user-sum did sdid user (header_word on ci ∷ q) 255 (ap suc nq)
+        let e : summed_of ws ≡ summed_words on ci r = ap (λ (l : List ℕ). 0x25F ∷ 0x1FE ∷ 0x2FF ∷ header_word on ci ∷ l) w ∙ sym (summed-shape on ci r) in
+        eq-eqb (checksum_of (summed_of ws)) (get_or ws 261 0) (ap checksum_of e ∙ sym carried-last)
 
     -- once its protected words are read as they were written, the packet reads as what was written
     pub reads : protected_refusal (correction_of ws) (protected_of ws) ≡ none → content_refusal r ≡ none → Reads ws on ci r
@@ -84,4 +86,5 @@ module _ (on : Bool) (ci : ℕ) (r q : List ℕ) (hc : ci ≤ 15) (nr : length r
       where
         accepted : read_refusal ws ≡ none
         accepted =
-            unfold read_refusal body_refusal in simp (carried-head, e, carried-sum, carried-bytes, b)
+            unfold read_refusal head_refusal body_refusal has_flag flag same in
+            simp (eq-eqb (length ws) 262 carried-length, carried-narrow, carried-header, e, carried-sum, carried-bytes, b)

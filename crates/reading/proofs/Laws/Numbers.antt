@@ -8,8 +8,7 @@ use native.Mathlib.Omega.{arith}
 use borrow.Author.Tests.{ne_eqb, leb-true}
 use lib.Dec.{leb, eqb}
 use Rattle.basics.specs.Each.{all}
-use Rattle.anc.specs.Packet.{sum_right}
-use Rattle.anc.proofs.Laws.Packet.{front-without}
+use Rattle.anc.specs.Word.{checksum_of}
 use Rattle.refusal.specs.Chain.{require, passed}
 use Rattle.refusal.specs.Number.{number_of, refusal_plain}
 use Rattle.refusal.specs.declared.Reason.TheVariants.{Checksum, Room}
@@ -17,18 +16,19 @@ use Rattle.refusal.proofs.Laws.Chain.{Without, without-passed, without-require, 
 use Rattle.record.specs.Record.{content_refusal}
 use Rattle.record.proofs.Laws.Reserved.{content-without}
 use Rattle.items.specs.Items.{items}
-use Rattle.reading.specs.Reading.{read_bytes, read_user, head_refusal}
+use Rattle.reading.specs.Reading.{word, summed_of, read_bytes, head_refusal}
 
--- a number from 10 on is none below it
+-- a number up to 6 is none above it, and one from 10 on none below it
+up-to-six : (n : ℕ) → 6 < n → (m : ℕ) → leb m 6 ≡ true → eqb m n ≡ false
+up-to-six n h m t = ne_eqb m n (λ e. omega (arith, leb-true m 6 t))
+
 from-ten : (n : ℕ) → n < 10 → (m : ℕ) → leb 10 m ≡ true → eqb m n ≡ false
 from-ten n h m t = ne_eqb m n (λ e. omega (arith, leb-true 10 m t))
 
 -- the words up to the header
 pub head-without : (n : ℕ) → 6 < n → (ws : List ℕ) → Without n (head_refusal ws)
 unfolding head_refusal number_of
-head-without n h ws =
-    let header : eqb 6 n ≡ false = ne_eqb 6 n (λ e. omega arith) in
-    search (without, front-without n (omega arith), header)
+head-without n h ws = search (without, up-to-six n h) depth 9
 
 -- what is in the bytes
 bytes-without : (n : ℕ) → n < 10 → (bytes : List ℕ) → Without n (content_refusal bytes)
@@ -37,7 +37,7 @@ bytes-without n h bytes = content-without n (leb 10) (from-ten n h) bytes refl r
 
 -- the checksum, and then what is in the bytes
 pub tail-without : (n : ℕ) → n < 10 → (ws : List ℕ)
-    → Without n (require (sum_right 255 ws (read_user ws)) (refusal_plain Checksum) (content_refusal (read_bytes ws)))
+    → Without n (require (eqb (checksum_of (summed_of ws)) (word ws 261)) (refusal_plain Checksum) (content_refusal (read_bytes ws)))
 unfolding number_of
 tail-without n h ws = search (without, bytes-without n h, from-ten n h)
 

@@ -7,8 +7,8 @@ use mathlib.Core.Logic.Iff
 use mathlib.Core.Logic.{◌↔◌}
 use mathlib.Core.Option.{Option, none, some}
 use Prim.Native.Nat.{ℕ}
-use lib.Dec.{lit<}
-use lib.ListN.{drop}
+use lib.Dec.{eqb, lit<}
+use lib.ListN.{length, drop}
 use Rattle.basics.specs.Each.{all}
 use Rattle.basics.proofs.Laws.Below.{take_below, drop-below}
 use Rattle.anc.specs.Word.{is_sound}
@@ -20,10 +20,9 @@ use Rattle.refusal.specs.Number.{number_of, refusal_at}
 use Rattle.refusal.specs.declared.Wrong.{Wrong}
 use Rattle.refusal.specs.declared.Reason.TheVariants.{Parity}
 use Rattle.refusal.specs.declared.Refusal.{Refusal}
-use Rattle.refusal.proofs.Laws.Chain.{next-gives, Without, without, without-next, never-gives}
+use Rattle.refusal.proofs.Laws.Chain.{require-passed, next-gives, Without, without, without-next, never-gives}
 use Rattle.reading.specs.Reading.{correction_of, protected_of, data_words, head_refusal, protected_refusal, body_refusal, read_refusal, read_into_refusal, OffPacket}
 use Rattle.reading.proofs.Laws.Reader.{guarded-on, guarded-off}
-use Rattle.reading.proofs.Laws.Again.{head-front}
 use Rattle.reading.proofs.Laws.Numbers.{head-without, tail-without, room-without}
 
 not-seven : {o : Option Refusal} (wrong : Wrong) (place : ℕ) → Without 7 o → o ≡ some (refusal_at (Parity wrong) place) → ⊥
@@ -59,10 +58,11 @@ module _ (ws : List ℕ) (head : head_refusal ws ≡ none) (off : correction_of 
 
   -- the data words have ten bits
   data-narrow : narrow (data_words (protected_of ws)) ≡ true
-  unfolding protected_of
+  unfolding head_refusal protected_of
   data-narrow =
-      below-narrow (data_words (protected_of ws))
-      (take_below 1024 248 (protected_of ws) (take_below 1024 254 (drop 7 ws) (drop-below 1024 7 ws (narrow_below ws (head-front ws head).slim))))
+      let long = require-passed (eqb (length ws) 262) _ _ head in
+      let slim = (require-passed (narrow ws) _ _ long.1).0 in
+      below-narrow (data_words (protected_of ws)) (take_below 1024 248 (protected_of ws) (take_below 1024 254 (drop 7 ws) (drop-below 1024 7 ws (narrow_below ws slim))))
 
 -- ---- any words
 

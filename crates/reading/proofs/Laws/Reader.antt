@@ -1,13 +1,13 @@
 -- The laws of reading part by part: the checks of the protected words and their bytes, the words that are summed, and what is told of a
 -- packet.
 -- Assumes nothing.
-use mathlib.Core.Path.{◌≡◌, sym, ap, ◌∙◌}
+use mathlib.Core.Path.{◌≡◌, refl, sym, ap, ◌∙◌}
 use mathlib.Core.Bool.{Bool, true, false}
 use mathlib.Core.List.{List, [], ◌∷◌, ◌++◌, append-nil}
 use Prim.Native.Nat.{ℕ, suc, ◌%◌}
 use native.Mathlib.Omega.{arith}
 use lib.ListN.{length, take, drop, length-drop}
-use lib.Seq.{take_all, drop-cons}
+use lib.Seq.{take_all}
 use Rattle.soundness.specs.Check.{unsound_from}
 use Rattle.refusal.specs.Chain.{require, next, passed}
 use Rattle.refusal.specs.Number.{refusal_plain}
@@ -25,9 +25,8 @@ use Rattle.repair.specs.declared.Repaired.{Repaired}
 use Rattle.repair.specs.declared.Repaired.TheVariants.{Fixed, Refused}
 use Rattle.repair.proofs.Laws.Changes.{counted_words}
 use Rattle.anc.specs.Words.{low_bytes, sound_words}
-use Rattle.anc.specs.Packet.{word, summed_with}
-use Rattle.reading.specs.Reading.{correction_of, index_of, protected_of, data_words, is_fill, protected_refusal}
-use Rattle.reading.specs.Answer.{packet_by, guard_bytes, user_by, summed_by}
+use Rattle.reading.specs.Reading.{word, correction_of, index_of, protected_of, data_words, is_fill, protected_refusal}
+use Rattle.reading.specs.Answer.{packet_by, guard_bytes, summed_by}
 use Rattle.anc.proofs.Laws.Words.{low_bytes-length, sound_words-length, low-words}
 use Rattle.repair.proofs.Laws.Repair.{repaired-bytes, rewritten-length}
 
@@ -76,14 +75,14 @@ four-more bytes l e n =
 
 pub summed-on : (ws bytes l : List ℕ) → length ws ≡ 262 → l ≡ sound_words bytes
     → word ws 3 ∷ word ws 4 ∷ word ws 5 ∷ word ws 6 ∷ (l ++ []) ≡ summed_by true ws bytes
-unfolding summed_by user_by summed_with
+unfolding summed_by
 summed-on ws bytes l n e =
     ap (λ (m : List ℕ). word ws 3 ∷ word ws 4 ∷ word ws 5 ∷ word ws 6 ∷ m) (append-nil l ∙ e)
-    ∙ ap (λ (m : List ℕ). m ++ (word ws 6 ∷ sound_words bytes)) (sym (part-entries 3 3 ws (omega arith)))
+    ∙ ap (λ (m : List ℕ). m ++ sound_words bytes) (sym (part-entries 4 3 ws (omega arith)))
 
-pub summed-off : (ws bytes : List ℕ) → length ws ≡ 262 → take 258 (drop 3 ws) ≡ summed_by false ws bytes
-unfolding summed_by user_by summed_with protected_of
-summed-off ws bytes n = sym (join ws 3 3 255 (word ws 6 ∷ take 254 (drop 7 ws)) (sym (ap (take 255) (drop-cons ws 6 0 (omega arith)))))
+pub summed-off : (ws bytes : List ℕ) → take 258 (drop 3 ws) ≡ summed_by false ws bytes
+unfolding summed_by protected_of
+summed-off ws bytes = sym (join ws 3 4 254 (take 254 (drop 7 ws)) refl)
 
 -- ---- what is told of a packet
 

@@ -8,7 +8,7 @@ use mathlib.Core.Logic.Iff
 use mathlib.Core.Logic.{◌↔◌}
 use mathlib.Core.Option.{Option, none, some}
 use Prim.Native.Nat.{ℕ}
-use lib.Dec.{lit<}
+use lib.Dec.{eqb, lit<}
 use borrow.Author.Tests.{eqb-true, eq-eqb}
 use Rattle.anc.specs.Word.{checksum_of}
 use Rattle.soundness.proofs.Laws.Run.{unsound-without}
@@ -19,8 +19,7 @@ use Rattle.refusal.proofs.Laws.Chain.{next-gives, next-behind, require-behind, o
 use Rattle.record.specs.Reserved.{FirstUsed}
 use Rattle.record.specs.Record.{content_refusal}
 use Rattle.record.proofs.Laws.Reserved.{content-first}
-use Rattle.anc.specs.Packet.{word, sum_right}
-use Rattle.reading.specs.Reading.{correction_of, protected_of, read_bytes, read_user, summed_of, head_refusal, protected_refusal, body_refusal, read_refusal, read_into_refusal, UpToSum}
+use Rattle.reading.specs.Reading.{word, correction_of, protected_of, read_bytes, summed_of, head_refusal, protected_refusal, body_refusal, read_refusal, read_into_refusal, UpToSum}
 use Rattle.reading.proofs.Laws.Numbers.{head-without, room-without}
 
 protected-without : (on : Bool) (guarded : List ℕ) → Without 15 (protected_refusal on guarded)
@@ -39,13 +38,13 @@ module _ (ws : List ℕ) (place : ℕ) where
   -- the checks before it pass, one after the other, and then it is what is in the bytes
   steps : (read_refusal ws ≡ some fifteen)
       ↔ ((head_refusal ws ≡ none) × ((protected_refusal (correction_of ws) (protected_of ws) ≡ none) × ((checksum_of (summed_of ws) ≡ word ws 261) × FirstUsed (read_bytes ws) place)))
-  unfolding read_refusal body_refusal sum_right summed_of number_of
+  unfolding read_refusal body_refusal number_of
   steps =
       Iff.trans (next-behind (head_refusal ws) (body_refusal ws) fifteen (not-fifteen (head-without 15 (lit< tt) ws)))
       (Iff.and Iff.rfl
       (Iff.trans (next-behind (protected_refusal (correction_of ws) (protected_of ws)) _ fifteen (not-fifteen (protected-without (correction_of ws) (protected_of ws))))
       (Iff.and Iff.rfl
-      (Iff.trans (require-behind (sum_right 255 ws (read_user ws)) (refusal_plain Checksum) fifteen (content_refusal (read_bytes ws)) (other-number _ _ refl))
+      (Iff.trans (require-behind (eqb (checksum_of (summed_of ws)) (word ws 261)) (refusal_plain Checksum) fifteen (content_refusal (read_bytes ws)) (other-number _ _ refl))
       (Iff.and (eqb-true _ _, eq-eqb _ _) (content-first (read_bytes ws) place))))))
 
   pub read-used : (read_refusal ws ≡ some (refusal_at ReservedArea place)) ↔ (UpToSum ws × FirstUsed (read_bytes ws) place)

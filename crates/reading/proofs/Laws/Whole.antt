@@ -12,19 +12,29 @@ use lib.Seq.{drop-drop, length-take-le}
 use Rattle.basics.specs.Below.{Bytes}
 use Rattle.rs.proofs.Laws.Distance.{changes-zero}
 use Rattle.basics.proofs.Laws.Below.{take_below}
+use Rattle.repair.proofs.Laws.Repair.{repaired-codeword}
+use Rattle.refusal.proofs.Laws.Chain.{require-passed}
 use Rattle.repair.specs.Protected.{rewritten, fixed_of}
 use Rattle.anc.specs.Words.{low_bytes}
 use Rattle.writing.specs.Layout.{packet_words}
-use Rattle.reading.specs.Reading.{correction_of, index_of, protected_of, read_words, read_bytes, read_record, read_refusal, read_fixed, Clean, rewritten_packet}
+use Rattle.reading.specs.Reading.{correction_of, index_of, protected_of, read_words, read_bytes, read_record, read_refusal, read_fixed, protected_refusal, Clean, rewritten_packet}
 use Rattle.record.proofs.Laws.Record.{record-bytes}
 use Rattle.record.specs.Reserved.{reserved_area}
 use Rattle.record.proofs.Laws.Record.{record-keeps}
 use Rattle.record.proofs.Laws.Stored.{CleanRecord, record-clean}
-use Rattle.anc.proofs.Laws.Words.{low-bytes, low_bytes-length}
+use Rattle.anc.proofs.Laws.Words.{low-bytes, low_bytes-length, sound_words-length}
 use Rattle.reading.proofs.Laws.RoundTrip.{written-reads, written-fixed}
-use Rattle.reading.proofs.Laws.Again.{Accepted, accepted-parts, length_part, length-read, again}
+use Rattle.reading.proofs.Laws.Again.{Accepted, accepted-parts, length_part, again}
 
 -- ---- what is read
+
+-- the protected words as they are read are 254
+length-read : (ws : List ℕ) → Accepted ws → (on : Bool) → correction_of ws ≡ on → length (read_words ws) ≡ 254
+unfolding read_words protected_refusal rewritten
+length-read ws A true e =
+    let p = require-passed _ _ _ (rw e at A.guarded) in
+    rw e (sound_words-length _ ∙ (repaired-codeword (protected_of ws) p.0).long)
+length-read ws A false e = rw e (length_part ws A.long)
 
 pub read_length : (ws : List ℕ) → read_refusal ws ≡ none → length (read_bytes ws) ≡ 248
 unfolding read_bytes
@@ -50,7 +60,7 @@ read-clean ws e = record-clean (read_bytes ws) (read_length ws e) (accepted-part
 unchanged : (ws : List ℕ) → Accepted ws → read_fixed ws ≡ 0 → (on : Bool) → correction_of ws ≡ on → read_words ws ≡ protected_of ws
 unfolding read_words read_fixed fixed_of
 unchanged ws A f true e =
-    let n : length (protected_of ws) ≡ length (rewritten (protected_of ws)) = length_part ws A.front.long ∙ sym (unfold read_words in rw e at (length-read ws A true e)) in
+    let n : length (protected_of ws) ≡ length (rewritten (protected_of ws)) = length_part ws A.long ∙ sym (unfold read_words in rw e at (length-read ws A true e)) in
     rw e (sym (changes-zero (protected_of ws) (rewritten (protected_of ws)) n (rw e at f)))
 unchanged ws A f false e = rw e refl
 

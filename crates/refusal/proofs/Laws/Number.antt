@@ -11,11 +11,11 @@ use Rattle.refusal.specs.Number.{number_of, bits_of, bits_in, fixed_list, retire
 use Rattle.refusal.specs.declared.Wrong.{Wrong}
 use Rattle.refusal.specs.declared.Wrong.TheVariants.{B8, B9, Both}
 use Rattle.refusal.specs.declared.Reason.{Reason}
-use Rattle.refusal.specs.declared.Reason.TheVariants.{Length, Wide, Flag, Kind, Count, Header, Parity, Fill, BeyondRepair, Checksum, Station, Time, Picture, Sound, ReservedArea, Item, Size, NothingToUndo, Room, FieldLength, FieldHead, Index, History, ColourField, ThirdWord, OffRetired}
+use Rattle.refusal.specs.declared.Reason.TheVariants.{Length, Wide, Flag, Kind, Count, Header, Parity, Fill, BeyondRepair, Checksum, Station, Time, Picture, Sound, ReservedArea, Item, Size, NothingToUndo, Room, FieldLength, FieldHead, Index, OffRetired}
 
 -- the reasons, in the order of the fixed list, where this is wrong with the word of 7
 unfoldable pub reasons : Wrong → List Reason
-reasons wrong = Length ∷ Wide ∷ Flag ∷ Kind ∷ Count ∷ Header ∷ Parity wrong ∷ Fill ∷ BeyondRepair ∷ Checksum ∷ Station ∷ Time ∷ Picture ∷ Sound ∷ ReservedArea ∷ Item ∷ Size ∷ NothingToUndo ∷ Room ∷ FieldLength ∷ FieldHead ∷ Index ∷ History ∷ ColourField ∷ ThirdWord ∷ OffRetired ∷ []
+reasons wrong = Length ∷ Wide ∷ Flag ∷ Kind ∷ Count ∷ Header ∷ Parity wrong ∷ Fill ∷ BeyondRepair ∷ Checksum ∷ Station ∷ Time ∷ Picture ∷ Sound ∷ ReservedArea ∷ Item ∷ Size ∷ NothingToUndo ∷ Room ∷ FieldLength ∷ FieldHead ∷ Index ∷ OffRetired ∷ []
 
 -- the fixed list is the numbers of the reasons, in order, and holds nothing else
 pub list-of-reasons : (wrong : Wrong) → fixed_list ≡ map number_of (reasons wrong)
@@ -89,9 +89,6 @@ at_each =
       | FieldLength ↦ (tt, refl, refl, tt)
       | FieldHead ↦ (tt, refl, refl, tt)
       | Index ↦ (tt, refl, refl, tt)
-      | History ↦ (tt, refl, refl, tt)
-      | ColourField ↦ (tt, refl, refl, tt)
-      | ThirdWord ↦ (tt, refl, refl, tt)
       | OffRetired ↦ (tt, refl, refl, tt)
     ]
 

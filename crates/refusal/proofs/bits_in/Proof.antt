@@ -9,13 +9,13 @@ use types.Run.{OneOf, miss}
 use Rattle.refusal.specs.Number.{bits_in}
 use Rattle.refusal.specs.declared.Reason.{Reason}
 use Rattle.refusal.specs.contracts.Reason.{the_type}
-use Rattle.refusal.specs.declared.Reason.TheVariants.{Length, Wide, Flag, Kind, Count, Header, Parity, Fill, BeyondRepair, Checksum, Station, Time, Picture, Sound, ReservedArea, Item, Size, NothingToUndo, Room, FieldLength, FieldHead, Index, History, ColourField, ThirdWord, OffRetired}
+use Rattle.refusal.specs.declared.Reason.TheVariants.{Length, Wide, Flag, Kind, Count, Header, Parity, Fill, BeyondRepair, Checksum, Station, Time, Picture, Sound, ReservedArea, Item, Size, NothingToUndo, Room, FieldLength, FieldHead, Index, OffRetired}
 use Rattle.refusal.proofs.bits_in.Statement.{statement}
 use Rattle.refusal.proofs.bits_in.Tie as tie
 
 -- the cases of `Reason` but PARITY, as the second arm names them
 abbrev others : List ℕ
-others = 0 ∷ 1 ∷ 2 ∷ 3 ∷ 4 ∷ 5 ∷ 7 ∷ 8 ∷ 9 ∷ 10 ∷ 11 ∷ 12 ∷ 13 ∷ 14 ∷ 15 ∷ 16 ∷ 17 ∷ 18 ∷ 19 ∷ 20 ∷ 21 ∷ 22 ∷ 23 ∷ 24 ∷ 25 ∷ []
+others = 0 ∷ 1 ∷ 2 ∷ 3 ∷ 4 ∷ 5 ∷ 7 ∷ 8 ∷ 9 ∷ 10 ∷ 11 ∷ 12 ∷ 13 ∷ 14 ∷ 15 ∷ 16 ∷ 17 ∷ 18 ∷ 19 ∷ 20 ∷ 21 ∷ 22 ∷ []
 
 none-carried : (why : Reason) → OneOf others (tag_of the_type why) → 0 ≡ bits_in why
 unfolding bits_in
@@ -43,9 +43,6 @@ none-carried =
       | FieldLength ↦ λ k. refl
       | FieldHead ↦ λ k. refl
       | Index ↦ λ k. refl
-      | History ↦ λ k. refl
-      | ColourField ↦ λ k. refl
-      | ThirdWord ↦ λ k. refl
       | OffRetired ↦ λ k. refl
     ]
 

@@ -1,9 +1,9 @@
--- The parts of a packet as it is written: the protected words, the user words, and the header.
+-- The parts of a packet as it is written: the protected words, the words around them, and the header.
 -- Assumes nothing.
 use mathlib.Core.Path.{◌≡◌, refl, sym, ap, ◌∙◌}
 use mathlib.Core.Bool.{Bool, true, false, cond}
-use mathlib.Core.List.{List, ◌++◌}
-use Prim.Native.Nat.{ℕ, suc, ◌+◌, ◌/◌, ◌%◌, ◌≤◌, ◌<◌}
+use mathlib.Core.List.{List, ◌∷◌, ◌++◌}
+use Prim.Native.Nat.{ℕ, ◌+◌, ◌/◌, ◌%◌, ◌≤◌, ◌<◌}
 use native.Mathlib.Omega.{arith}
 use borrow.Author.Tests.{eq-eqb, ne_eqb}
 use lib.Dec.{eqb}
@@ -13,13 +13,12 @@ use Rattle.basics.specs.Each.{all}
 use Rattle.basics.specs.Below.{Bytes}
 use Rattle.basics.proofs.Laws.Below.{append-below}
 use Rattle.anc.specs.Word.{is_sound}
-use Rattle.anc.specs.Words.{low_bytes, sound_words, narrow}
+use Rattle.anc.specs.Words.{low_bytes, sound_words, narrow, flag}
 use Rattle.anc.proofs.Laws.Word.{word_lt, word_low, word_sound}
 use Rattle.anc.proofs.Laws.Words.{words_append, low-append, sound_words-length, low-words, words-narrow, narrow-append}
-use Rattle.anc.proofs.Laws.Packet.{packet-carries as kind-carries}
 use Rattle.rs.specs.Codeword.{parity_of, Codeword}
 use Rattle.rs.proofs.Laws.Division.{parity-length, parity-bytes}
-use Rattle.writing.specs.Layout.{did, sdid, header_word, protected_words, user_words, packet_words, carrying}
+use Rattle.writing.specs.Layout.{kind, header_word, protected_words, summed_words, packet_words, carrying}
 
 -- ---- the protected words: with correction on, those of a codeword
 
@@ -51,15 +50,15 @@ unfolding protected_words
 protected-narrow true r b = narrow-append _ _ (words-narrow r b) (words-narrow (parity_of r) (parity-bytes r))
 protected-narrow false r b = narrow-append _ _ (words-narrow r b) (unfold narrow all in refl)
 
--- ---- the user words, and the words around them
-
-pub user-long : (on : Bool) (ci : ℕ) (r : List ℕ) → length r ≡ 248 → length (user_words on ci r) ≡ 255
-unfolding user_words
-user-long on ci r n = ap suc (length-protected on r n)
+-- ---- the words around the protected ones
 
 pub packet-carries : (on : Bool) (ci : ℕ) (r : List ℕ) → packet_words on ci r ≡ carrying on ci r (protected_words on r)
-unfolding packet_words user_words
-packet-carries on ci r = kind-carries did sdid (user_words on ci r)
+unfolding packet_words summed_words flag kind
+packet-carries on ci r = refl
+
+pub summed-shape : (on : Bool) (ci : ℕ) (r : List ℕ) → summed_words on ci r ≡ 0x25F ∷ 0x1FE ∷ 0x2FF ∷ header_word on ci ∷ protected_words on r
+unfolding summed_words kind
+summed-shape on ci r = refl
 
 -- ---- the header
 

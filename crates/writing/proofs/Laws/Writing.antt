@@ -13,7 +13,8 @@ use borrow.Author.Tests.{eq-eqb, ne_eqb, eqb-true, le-leb, lt-leb, leb-true}
 use borrow.Rule.Slice.PartMut.{put_mid}
 use lib.Dec.{eqb, leb}
 use lib.ListN.{length, get_or, set, take, drop, replicate, length-append, drop_of_length-le}
-use lib.Seq.{sets, sets-eq, set_split, drop-drop, length-take-le}
+use lib.Seq.{sets, sets-eq, set_at, take_at, drop_at, drop-drop}
+use Rattle.anc.specs.Word.{checksum_of}
 use Rattle.refusal.specs.Number.{number_of, refusal_at, refusal_plain}
 use Rattle.refusal.specs.declared.Reason.TheVariants.{ReservedArea, Size, Index, Room}
 use Rattle.refusal.specs.declared.Refusal.{Refusal}
@@ -27,18 +28,16 @@ use Rattle.record.specs.Written.{written}
 use Rattle.record.proofs.Laws.Reserved.{content-decides, content-first}
 use Rattle.record.proofs.Laws.Record.{record-length, record-fits}
 use Rattle.refusal.proofs.Laws.Chain.{require-passed, next-passed, next-gives, next-behind, next-next, without, never-gives, told, chained-from, chained_more, chained-all, chained-last}
-use Rattle.basics.proofs.Laws.Parts.{same-cons, over, last_one}
+use Rattle.basics.proofs.Laws.Parts.{over, last_one}
 use Rattle.writing.specs.declared.Written.{Written}
 use Rattle.writing.specs.declared.Written.TheVariants.{Done, Refused}
-use Rattle.anc.specs.Words.{sound_words}
-use Rattle.anc.specs.Packet.{packet_of_kind, made_leaves}
-use Rattle.writing.specs.Layout.{did, sdid, header_word, protected_words, user_words, packet_words}
+use Rattle.anc.specs.Words.{sound_words, flag}
+use Rattle.writing.specs.Layout.{kind, header_word, protected_words, summed_words, packet_words}
 use Rattle.refusal.specs.Chain.{next, left_by}
 use Rattle.writing.specs.Writing.{given_refusal, room_refusal, write_refusal, layout_refusal, written_words}
 use Rattle.writing.specs.Written.{refusal_in, written_by, written_of, write_leaves, layout_of, layout_leaves}
 use Rattle.anc.proofs.Laws.Words.{sound_words-length}
-use Rattle.anc.proofs.Laws.Packet.{made-around}
-use Rattle.writing.proofs.Laws.Layout.{user-long}
+use Rattle.writing.proofs.Laws.Layout.{length-protected}
 
 -- past the end there is nothing
 past : (l : List ℕ) (i : ℕ) → length l ≤ i → drop i l ≡ []
@@ -53,39 +52,58 @@ stored l vs n =
 
 -- ---- parts laid over a buffer
 
--- the header stored, and two parts laid behind it
-abbrev pub laid : List ℕ → ℕ → List ℕ → List ℕ → List ℕ
-laid old h d t = put_mid 255 6 (put_mid 7 248 (set old 6 h) d) t
+-- three parts, one behind the other
+abbrev pub laid : List ℕ → List ℕ → List ℕ → List ℕ → List ℕ
+laid old h d t = put_mid 255 6 (put_mid 7 248 (h ++ drop 7 old) d) t
 
-module _ (old d t : List ℕ) (h : ℕ) (n : length old ≡ 262) (ld : length d ≡ 248) where
-  abbrev front : List ℕ
-  front = take 6 old ++ h ∷ []
+module _ (old a b d t : List ℕ) (n : length old ≡ 262) (la : length a ≡ 3) (lb : length b ≡ 4) (ld : length d ≡ 248) (lq : length (d ++ t) ≡ 254) where
+  abbrev z : ℕ
+  z = get_or old 261 0
 
-  lf : length front ≡ 7
-  lf = length-append (take 6 old) (h ∷ []) ∙ omega (arith, length-take-le 6 old (omega arith))
+  lh : length (a ++ b) ≡ 7
+  lh = length-append a b ∙ omega arith
 
-  laid_runs : laid old h d t ≡ take 6 old ++ ((h ∷ d ++ t) ++ get_or old 261 0 ∷ [])
+  lhd : length ((a ++ b) ++ d) ≡ 255
+  lhd = length-append (a ++ b) d ∙ omega (arith, lh)
+
+  laid_runs : laid old (a ++ b) d t ≡ (a ++ b) ++ ((d ++ t) ++ z ∷ [])
   laid_runs =
-      let one : set old 6 h ≡ front ++ drop 7 old = set_split old 6 h (omega arith) ∙ sym (append_assoc (take 6 old) _ _) in
-      let two : put_mid 7 248 (front ++ drop 7 old) d ≡ (front ++ d) ++ drop 255 old =
-      over front (drop 7 old) d 7 248 lf ∙ rw (drop-drop 248 7 old) (sym (append_assoc front d _)) in
-      let lfd : length (front ++ d) ≡ 255 = length-append front d ∙ omega (arith, lf) in
-      let rest : drop 6 (drop 255 old) ≡ get_or old 261 0 ∷ [] = drop-drop 6 255 old ∙ last_one old 261 n in
-      rw (one, two)
-      (over (front ++ d) (drop 255 old) t 255 6 lfd
-      ∙ rw rest (append_assoc front d _ ∙ append_assoc (take 6 old) _ _ ∙ ap (λ (r : List ℕ). take 6 old ++ h ∷ r) (sym (append_assoc d t _))))
+      let one : put_mid 7 248 ((a ++ b) ++ drop 7 old) d ≡ ((a ++ b) ++ d) ++ drop 255 old =
+      over (a ++ b) (drop 7 old) d 7 248 lh ∙ rw (drop-drop 248 7 old) (sym (append_assoc (a ++ b) d _)) in
+      let rest : drop 6 (drop 255 old) ≡ z ∷ [] = drop-drop 6 255 old ∙ last_one old 261 n in
+      rw one (over ((a ++ b) ++ d) (drop 255 old) t 255 6 lhd ∙ rw rest (append_assoc (a ++ b) d _ ∙ ap (λ (r : List ℕ). (a ++ b) ++ r) (sym (append_assoc d t _))))
+
+  -- the words that the checksum is taken over
+  pub laid-summed : take 258 (drop 3 (laid old (a ++ b) d t)) ≡ b ++ (d ++ t)
+  laid-summed =
+      let l : length (b ++ (d ++ t)) ≡ 258 = length-append b (d ++ t) ∙ omega (arith, lq) in
+      ap (λ (r : List ℕ). take 258 (drop 3 r)) (laid_runs ∙ append_assoc a b _)
+      ∙ ap (take 258) (drop_at a _ 3 la ∙ sym (append_assoc b (d ++ t) _))
+      ∙ take_at (b ++ (d ++ t)) _ 258 l
+
+  -- the last word stored
+  pub laid-stored : (v : ℕ) → set (laid old (a ++ b) d t) 261 v ≡ (a ++ b) ++ ((d ++ t) ++ v ∷ [])
+  laid-stored v =
+      let l : length ((a ++ b) ++ (d ++ t)) ≡ 261 = length-append (a ++ b) (d ++ t) ∙ omega (arith, lh, lq) in
+      ap (λ (r : List ℕ). set r 261 v) (laid_runs ∙ sym (append_assoc (a ++ b) (d ++ t) _))
+      ∙ set_at ((a ++ b) ++ (d ++ t)) z [] v 261 l ∙ append_assoc (a ++ b) (d ++ t) _
 
 -- the packet of 248 bytes
-pub packet-filled : (on : Bool) (ci : ℕ) (r old d t : List ℕ) (h : ℕ) (out : List ℕ) → length r ≡ 248 → length old ≡ 262
-    → h ≡ header_word on ci → d ≡ sound_words r → t ≡ cond on (sound_words (parity_of r)) (replicate 6 0x200)
-    → out ≡ made_leaves did sdid (laid old h d t) → out ≡ packet_words on ci r
-unfolding packet_words user_words protected_words
-packet-filled on ci r old d t h out nr n eh ed et e =
-    let user : h ∷ d ++ t ≡ user_words on ci r = same-cons eh (ap₂ (λ (x y : List ℕ). x ++ y) ed et) in
+pub packet-filled : (on : Bool) (ci : ℕ) (r old h d t : List ℕ) (sum : ℕ) → length r ≡ 248 → length old ≡ 262
+    → h ≡ flag ++ kind ++ header_word on ci ∷ [] → d ≡ sound_words r → t ≡ cond on (sound_words (parity_of r)) (replicate 6 0x200)
+    → sum ≡ checksum_of (take 258 (drop 3 (laid old h d t))) → set (laid old h d t) 261 sum ≡ packet_words on ci r
+unfolding packet_words summed_words protected_words flag kind
+packet-filled on ci r old h d t sum nr n eh ed et es =
+    let b : List ℕ = kind ++ header_word on ci ∷ [] in
+    let h' : h ≡ flag ++ b = eh in
     let ld : length d ≡ 248 = ap length ed ∙ sound_words-length r ∙ nr in
-    e ∙ ap (made_leaves did sdid) (laid_runs old d t h n ld)
-    ∙ made-around did sdid (take 6 old) (h ∷ d ++ t) _ (length-take-le 6 old (omega arith)) (omega (arith, ap length user, user-long on ci r nr))
-    ∙ ap (packet_of_kind did sdid) user
+    let q : d ++ t ≡ protected_words on r = ap₂ (λ (x y : List ℕ). x ++ y) ed et in
+    let lq : length (d ++ t) ≡ 254 = ap length q ∙ length-protected on r nr in
+    let s : sum ≡ checksum_of (b ++ protected_words on r) =
+    es ∙ ap (λ (x : List ℕ). checksum_of (take 258 (drop 3 (laid old x d t)))) h' ∙ ap checksum_of (laid-summed old flag b d t n refl refl ld lq ∙ ap (λ (x : List ℕ). b ++ x) q) in
+    ap (λ (x : List ℕ). set (laid old x d t) 261 sum) h'
+    ∙ laid-stored old flag b d t n refl refl ld lq sum
+    ∙ ap₂ (λ (x : List ℕ) (v : ℕ). (flag ++ b) ++ (x ++ v ∷ [])) q s
 
 -- ---- the answer
 

@@ -13,7 +13,7 @@ returns c = rw c.before.if1.true c.sum-rewritten.ensures
 returns-2 : tie.Need-returns-2
 returns-2 c =
     let s = c.before.before.before.before.before in
-    rw c.before.before.if1.false (c.checksum.ensures ∙ ap checksum_of (summed-off s.args.words.now s.args.bytes.now s.requires.0))
+    rw c.before.before.if1.false (c.checksum.ensures ∙ ap checksum_of (summed-off s.args.words.now s.args.bytes.now))
 
 pub sum-read-spec : {M : Type 1} → statement M
 sum-read-spec =

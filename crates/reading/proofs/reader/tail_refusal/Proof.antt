@@ -7,14 +7,13 @@ use lib.ListN.{get_or}
 use Rattle.refusal.specs.Number.{refusal_plain}
 use Rattle.refusal.specs.declared.Reason.TheVariants.{Checksum}
 use Rattle.refusal.proofs.Laws.Chain.{chained-none, chained_more, chained-last}
-use Rattle.anc.specs.Packet.{sum_right}
-use Rattle.reading.specs.Answer.{summed_by, tail_refusal}
+use Rattle.reading.specs.Answer.{tail_refusal}
 use borrow.Author.Rules.{rules}
 use Rattle.reading.proofs.reader.tail_refusal.Statement.{statement}
 use Rattle.reading.proofs.reader.tail_refusal.Tie as tie
 
 returns : tie.Need-returns
-unfolding tail_refusal summed_by sum_right
+unfolding tail_refusal
 returns c =
     let r = c.before in
     let t = r.before.before in
