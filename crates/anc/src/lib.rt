@@ -1,4 +1,6 @@
 // Ten-bit words, as ancillary packets of any kind carry them, and the checksum of a run of them.
+#![tactic(auto)]
+
 ghost use Rattle.std.specs.Prelude.{◌≡◌, ◌<◌, length};
 ghost use Rattle.refusal.specs.Checked.{checked_of};
 ghost use Rattle.anc.specs.Word.{parity_of, with_b9, word_of, checksum_of};
@@ -17,6 +19,7 @@ fn parity(byte: u8) -> u8
 }
 
 // Nine bits as a word: b9 is the inverse of b8.
+#[tactic(auto, unfolding(crate::specs::Word::with_b9, crate::specs::Word::bit))]
 fn with_b9(nine: u16) -> u16
     requires { nine < 512 }
     ensures { result ≡ with_b9 nine }
@@ -33,6 +36,7 @@ pub fn word_of(byte: u8) -> u16
 
 // The checksum word of a run of words. The sum may wrap at 65,536, of which 512 is a divisor, so one remainder at the end is
 // enough.
+#[tactic(auto, unfolding(crate::specs::Word::total, crate::specs::Word::checksum_of))]
 pub fn checksum(words: &[u16]) -> u16
     ensures { result ≡ checksum_of words.now }
 {
@@ -56,6 +60,7 @@ pub fn has_flag(words: &[u16]) -> bool
 }
 
 // Is no word over 1,023? It goes by the largest, with no early return, so that the words can be taken many at a time.
+#[tactic(auto, unfolding(crate::specs::Words::narrow))]
 pub fn narrow(words: &[u16]) -> bool
     ensures { result ≡ narrow words.now }
 {

@@ -1,4 +1,6 @@
 // The plain structs that cross to C, and how an answer becomes one: an enum does not cross, so its number and its values do.
+#![tactic(auto)]
+
 ghost use Rattle.std.specs.Prelude.{◌≡◌};
 ghost use Rattle.refusal.specs.Checked.{refusal_in};
 ghost use Rattle.writing.specs.Written.{refusal_in as refusal_in_written};

@@ -1,4 +1,6 @@
 // One B40 field that carries one packet: packed from the packet's 262 words into 328 bytes, and unpacked from them.
+#![tactic(auto)]
+
 mod field;
 
 ghost use Rattle.std.specs.Prelude.{◌≡◌, length};

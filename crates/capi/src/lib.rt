@@ -1,4 +1,6 @@
 // The calls for C: numbers, lent slices and plain structs, each under its plain name. What they say stands in include/aynirukh.h.
+#![tactic(auto)]
+
 ghost use Rattle.std.specs.Prelude.{◌≡◌, length};
 ghost use Rattle.anc.specs.Word.{word_of, checksum_of};
 ghost use Rattle.soundness.specs.Check.{soundness_of};

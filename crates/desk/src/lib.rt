@@ -1,5 +1,7 @@
 // The desk: the sender's record with its history. Opening hands it out with an answer; each call after that takes the desk, checks what it is
 // given, and hands the desk back with the answer. A refusal hands it back as it was.
+#![tactic(auto)]
+
 ghost use Rattle.std.specs.Prelude.{◌≡◌, length, replicate};
 ghost use Rattle.desk.specs.Desk.{opening, opened, edited, undone, sent, send_leaves};
 

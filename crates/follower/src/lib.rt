@@ -1,4 +1,6 @@
 // The follower: the receiver's two records and counts. Each packet is the first one, the next one, a repeat or a conflict, or it is refused.
+#![tactic(auto)]
+
 ghost use Rattle.std.specs.Prelude.{◌≡◌, length};
 ghost use Rattle.refusal.specs.Checked.{checked_of};
 ghost use Rattle.follower.specs.Follower.{counted, before_again, arrived_as, arrival_of, held_by, follower_after, accepts, refused_after, followed, opened, shown_by, shown_refusal, shown_leaves};
@@ -8,7 +10,7 @@ use sequence::{Kind, counts, onsets};
 
 // What an accepted packet brings: its kind, its index, how many of its words were fixed, how many packets were missed before it, and
 // the triggers that it sets, Q1 in bit 0 to Q32 in bit 31.
-#[derive(Drop)]
+#[derive(Clone, Copy)]
 pub struct Arrival {
     pub kind: Kind,
     pub ci: u8,
@@ -18,7 +20,7 @@ pub struct Arrival {
 }
 
 // What a follower hears in a packet.
-#[derive(Drop)]
+#[derive(Clone, Copy)]
 pub enum Heard {
     Accepted(Arrival),
     Refused(refusal::Refusal),
@@ -27,7 +29,7 @@ pub enum Heard {
 // The record at the last position and its index, the record before it, and whether the two were successive: the one at the position arrived
 // as NEXT with nothing missed.
 #[repr(C)]
-#[derive(Drop)]
+#[derive(Clone, Copy)]
 pub struct Held {
     pub at: [u8; 248],
     pub ci: u8,
@@ -38,7 +40,7 @@ pub struct Held {
 // Has a packet been accepted; the two records; `back`: is the one before shown, and not the one at the position? And the counts, which stop at the
 // ceiling.
 #[repr(C)]
-#[derive(Drop)]
+#[derive(Clone, Copy)]
 pub struct Follower {
     pub started: bool,
     pub held: Held,

@@ -1,6 +1,8 @@
 // Arithmetic in GF(256), the field of bytes modulo x^8 + x^4 + x^3 + x^2 + 1: sum, product and quotient, each total; the two
 // constant tables, powers and logarithms; and the same product and quotient over tables that the caller lends, for code that works
 // through many bytes, since a constant array is built anew at each use.
+#![tactic(auto)]
+
 mod log_table;
 mod power_table;
 
@@ -10,6 +12,7 @@ ghost use Rattle.gf256.specs.Tables.{PowerTable, LogTable};
 ghost use Rattle.gf256.specs.Lent.{Wheel, log_in, product_in, quotient_in};
 
 // The powers of 2 from 0 to 254.
+#[tactic(auto, unfolding(crate::proofs::Laws::Double::doublings, crate::specs::Field::double))]
 pub fn powers() -> [u8; 255]
     ensures { PowerTable result }
 {
@@ -17,6 +20,7 @@ pub fn powers() -> [u8; 255]
 }
 
 // The power of 2 that each byte but 0 is.
+#[tactic(auto, unfolding(crate::proofs::Laws::Double::doublings, crate::specs::Field::double))]
 pub fn logs() -> [u8; 256]
     ensures { LogTable result }
 {
@@ -50,6 +54,7 @@ pub fn log_in(logs: &[u8; 256], a: u8) -> usize
 }
 
 // The product over lent tables.
+#[tactic(auto, unfolding(crate::specs::Lent::product_in))]
 pub fn product_in(wheel: &[u8; 1021], logs: &[u8; 256], a: u8, b: u8) -> u8
     ensures { result ≡ product_in wheel.now logs.now a b }
 {

@@ -1,5 +1,7 @@
 // The items of the record, each by its number: where it stands, what the bytes given for it are refused for, and which have places that aren't
 // read.
+#![tactic(auto)]
+
 mod item;
 
 ghost use Rattle.std.specs.Prelude.{◌≡◌, ◌||◌, eqb};

@@ -1,4 +1,6 @@
 // What is printed of a field: `refused N P` alone, or its head, its packet, and each item's record bytes.
+#![tactic(auto)]
+
 pub mod page;
 
 ghost use Rattle.std.specs.Prelude.{◌≡◌, ◌≤◌, length};

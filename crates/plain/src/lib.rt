@@ -1,6 +1,8 @@
 // A plain repairer of 254 bytes, to hold against the quick one of `search`: it tries no place, then each place, each pair and each triple of
 // places in rising order, solves for the errors there, and stops at the first places whose errors have the six sums of what was delivered.
 // It has the same contract.
+#![tactic(auto)]
+
 mod solver;
 
 ghost use Rattle.std.specs.Prelude.{◌≡◌, [], ℕ, ◌<◌, ◌≤◌, length};

@@ -1,11 +1,13 @@
 // Reading a control packet: its 262 words are checked, and its record handed out.
+#![tactic(auto)]
+
 mod reader;
 
 ghost use Rattle.std.specs.Prelude.{◌≡◌, length};
 ghost use Rattle.reading.specs.Answer.{reading_of, reading_into_of, read_leaves};
 
 // What an accepted packet is: is correction on, its index CI, and how many protected words' ten bits changed, 0 to 254.
-#[derive(Drop)]
+#[derive(Clone, Copy)]
 pub struct Packet {
     pub correction: bool,
     pub ci: u8,

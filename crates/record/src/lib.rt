@@ -1,6 +1,8 @@
 // The record: the 248 bytes of a packet's items and reserved area. What they are refused for, the record of some bytes, in which the
 // reserved area and every place that isn't read is zero, one item's bytes in it, and the private area, which is item 13, as a part of the
 // caller's own bytes.
+#![tactic(auto)]
+
 ghost use Rattle.std.specs.Prelude.{◌≡◌, ◌+◌, ◌≤◌, length};
 ghost use Rattle.items.specs.Items.{items};
 ghost use Rattle.refusal.specs.Checked.{checked_of};

@@ -1,12 +1,14 @@
 // The refusals: why a call says no, and at which byte. Every crate that can refuse answers with these, and its checks follow one another
 // by `then`.
+#![tactic(auto)]
+
 ghost use Rattle.std.specs.Prelude.{◌≡◌};
 ghost use Rattle.refusal.specs.Number.{number_of, bits_of, bits_in, refusal_at, refusal_plain};
 ghost use Rattle.refusal.specs.Chain.{require, passed, next};
 ghost use Rattle.refusal.specs.Checked.{checked_of, refusal_in};
 
 // What is wrong with a word that is not sound: b8, b9 or both are not what b0 to b7 call for.
-#[derive(Drop)]
+#[derive(Clone, Copy)]
 pub enum Wrong {
     B8,
     B9,
@@ -14,7 +16,7 @@ pub enum Wrong {
 }
 
 // One case for each number on the fixed list, in the list's order. PARITY, and no other, says what is wrong with the word.
-#[derive(Drop)]
+#[derive(Clone, Copy)]
 pub enum Reason {
     Length,
     Wide,
@@ -42,13 +44,14 @@ pub enum Reason {
 }
 
 // A refusal: its reason, which has the number, and its place, 0 where the list gives none.
-#[derive(Drop)]
+#[derive(Clone, Copy)]
 pub struct Refusal {
     pub reason: Reason,
     pub place: u8,
 }
 
 // The number that the fixed list gives a reason.
+#[tactic(auto, unfolding(crate::specs::Number::number_of))]
 pub fn number(reason: Reason) -> u8
     ensures { result ≡ number_of reason }
 {
@@ -80,6 +83,7 @@ pub fn number(reason: Reason) -> u8
 }
 
 // What is wrong with a word, as a number: 1 is b8, 2 is b9, 3 is both.
+#[tactic(auto, unfolding(crate::specs::Number::bits_of))]
 pub fn bits(wrong: Wrong) -> u8
     ensures { result ≡ bits_of wrong }
 {
@@ -91,6 +95,7 @@ pub fn bits(wrong: Wrong) -> u8
 }
 
 // The bits that a reason carries: those of the word where it is PARITY, else 0.
+#[tactic(auto, unfolding(crate::specs::Number::bits_in))]
 pub fn bits_in(reason: Reason) -> u8
     ensures { result ≡ bits_in reason }
 {
@@ -115,7 +120,7 @@ pub fn at(reason: Reason, place: u8) -> Refusal
 }
 
 // What a check answers.
-#[derive(Drop)]
+#[derive(Clone, Copy)]
 pub enum Checked {
     Passed,
     Refused(Refusal),

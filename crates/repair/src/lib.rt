@@ -1,4 +1,6 @@
 // The repair of a packet's 254 protected words: rewritten as the sound words of the codeword near them, with a count of those that change.
+#![tactic(auto)]
+
 ghost use Rattle.std.specs.Prelude.{◌≡◌, length};
 ghost use Rattle.repair.specs.Repair.{repaired_of, counted_of, repair_leaves};
 

@@ -1,6 +1,8 @@
 // The Reed-Solomon code RS(254,248) over GF(256): a codeword is 248 data bytes and their parity, the six bytes that the division of
 // the data by the divisor G leaves. What the division leaves of a delivered block tells whether it is a codeword; a receiver that never
 // repairs asks for that alone. What repair gives is defined here, in `specs/Decode.antt`; the crates `search` and `plain` do it.
+#![tactic(auto)]
+
 mod division;
 
 ghost use Rattle.std.specs.Prelude.{◌≡◌};

@@ -1,6 +1,8 @@
 // The rules of the record's items: what each may hold, and which of its bits are read. Each answer is one test, whose parts are all
 // computed: none of them can fail, and none needs another to pass first. A time and a picture mode are handed in by value, so that there is no
 // other number of bytes to speak of.
+#![tactic(auto)]
+
 ghost use Rattle.std.specs.Prelude.{◌≡◌, cond, ◌*◌, ◌/◌, ◌%◌, ◌≤◌, ◌<◌};
 ghost use Rattle.rules.specs.Rules.{within, one_of, station_byte, station_rule, time_byte, time_rule, picture_rule, picture_clean, sound_byte};
 
@@ -26,6 +28,7 @@ fn one_of(list: &[u8], n: u8) -> bool
 
 // ---- item 1, station code
 
+#[tactic(auto, unfolding(crate::specs::Rules::station_byte))]
 fn station_byte(b: u8) -> bool
     ensures { result ≡ station_byte b }
 {
@@ -33,6 +36,7 @@ fn station_byte(b: u8) -> bool
 }
 
 // May each byte stand in a station code?
+#[tactic(auto, unfolding(crate::specs::Rules::station_rule))]
 pub fn station(bytes: &[u8]) -> bool
     ensures { result ≡ station_rule bytes.now }
 {
@@ -48,6 +52,7 @@ pub fn station(bytes: &[u8]) -> bool
 // ---- item 2, time
 
 // Two decimal digits that make a number from low to high, or not sent?
+#[tactic(auto, unfolding(crate::specs::Rules::time_byte, crate::specs::Rules::decimal))]
 fn time_byte(low: u8, high: u8, b: u8) -> bool
     ensures { result ≡ time_byte low high b }
 {
@@ -57,6 +62,7 @@ fn time_byte(low: u8, high: u8, b: u8) -> bool
 }
 
 // May these nine bytes stand for a time? The last two, the milliseconds, are both sent or both not.
+#[tactic(auto, unfolding(crate::specs::Rules::time_rule))]
 pub fn time(w: [u8; 9]) -> bool
     ensures { result ≡ time_rule w }
 {
@@ -72,6 +78,7 @@ pub fn time(w: [u8; 9]) -> bool
 // ---- items 3 and 4, picture mode
 
 // May these four bytes stand for a picture mode?
+#[tactic(auto, unfolding(crate::specs::Rules::picture_rule, crate::specs::Rules::low_half))]
 pub fn picture(w: [u8; 4]) -> bool
     ensures { result ≡ picture_rule w }
 {
@@ -95,6 +102,7 @@ fn bit_if(read: bool, weight: u8, b: u8) -> u8
 }
 
 // The four bytes of a picture mode with every bit that isn't read set to zero.
+#[tactic(auto, unfolding(crate::specs::Rules::picture_clean, crate::specs::Rules::bit_for, crate::specs::Rules::only_bit, crate::specs::Rules::low_half))]
 pub fn picture_clean(w: [u8; 4]) -> [u8; 4]
     ensures { result ≡ picture_clean w }
 {
@@ -111,6 +119,7 @@ pub fn picture_clean(w: [u8; 4]) -> [u8; 4]
 // ---- items 6 and 7, sound mode
 
 // May the byte stand for a sound mode?
+#[tactic(auto, unfolding(crate::specs::Rules::sound_byte))]
 pub fn sound_byte(b: u8) -> bool
     ensures { result ≡ sound_byte b }
 {

@@ -1,5 +1,7 @@
 // The search for errors in what was delivered, and exact repair of 254 bytes. Of the bytes alone it gives the codeword within three of them; with the words
 // that carried them first the codeword with 2e + f at most 6, of which the words that are not sound are the f. It refuses exactly when there is none.
+#![tactic(auto)]
+
 mod marked;
 mod solver;
 mod values;

@@ -7,7 +7,7 @@ ghost use Rattle.rs.specs.Polynomial.{value_at};
 ghost use Rattle.search.specs.Search.{Tables, killed_of, Steps, locator_two, locator_three, TopRoot, determinant, Placed, errors_of, FindsOne, FindsTwo, FindsThree, Held, Solved, sums_of};
 
 // Three places with their values; a value of 0 is no error.
-#[derive(Drop)]
+#[derive(Clone, Copy)]
 pub(crate) struct Errors {
     pub(crate) k0: usize,
     pub(crate) y0: u8,
@@ -18,7 +18,7 @@ pub(crate) struct Errors {
 }
 
 // The polynomial x^3 + a x^2 + b x + c whose roots are the places; c is 0 for two.
-#[derive(Drop)]
+#[derive(Clone, Copy)]
 struct Locator {
     a: u8,
     b: u8,

@@ -1,4 +1,6 @@
 // How a packet stands to the one accepted before it: the step from its index, whether the record is equal, its kind, and what was missed.
+#![tactic(auto)]
+
 pub mod counts;
 pub mod onsets;
 
@@ -7,7 +9,7 @@ ghost use Rattle.basics.specs.Each.{same as equal};
 ghost use Rattle.sequence.specs.Sequence.{step_of, kind_of, missed_of};
 
 // How a packet stands to the one accepted before it.
-#[derive(Drop)]
+#[derive(Clone, Copy)]
 pub enum Kind {
     First,
     Next,
@@ -23,6 +25,7 @@ pub(crate) fn wide(x: u8) -> u32
 }
 
 // The new index less the last one, modulo 16.
+#[tactic(auto, unfolding(crate::specs::Sequence::step_of))]
 pub fn step_of(last: u8, new: u8) -> u8
     ensures { result ≡ step_of last new }
 {
@@ -46,6 +49,7 @@ pub fn same(a: &[u8], b: &[u8]) -> bool
 }
 
 // The first; then by d, and by whether the record is the one held.
+#[tactic(auto, unfolding(crate::specs::Sequence::kind_of))]
 pub fn kind_of(started: bool, d: u8, equal: bool) -> Kind
     ensures { result ≡ kind_of started d equal }
 {

@@ -5,6 +5,7 @@ ghost use Rattle.sequence.specs.Onsets.{onset_bit, onset_byte, onsets_after};
 use crate::wide;
 
 // The bit of this weight where it is 1 now and was 0, else 0.
+#[tactic(auto, unfolding(crate::specs::Onsets::onset_bit))]
 fn bit(weight: u8, old: u8, new: u8) -> u8
     requires { 0 < weight }
     ensures { (result ≡ onset_bit weight old new) × (result ≤ weight) }
@@ -19,6 +20,7 @@ fn bit(weight: u8, old: u8, new: u8) -> u8
 }
 
 // The bits of a byte that were 0 and are 1.
+#[tactic(auto, unfolding(crate::specs::Onsets::onset_byte))]
 fn byte(old: u8, new: u8) -> u8
     ensures { result ≡ onset_byte old new }
 {
@@ -28,6 +30,7 @@ fn byte(old: u8, new: u8) -> u8
 }
 
 // The triggers that were 0 and are 1, Q1 lowest; none where there is no record before.
+#[tactic(auto, unfolding(crate::specs::Onsets::onsets_after, crate::specs::Onsets::onsets_of))]
 pub fn onsets(started: bool, old: &[u8; 248], new: &[u8; 248]) -> u32
     ensures { result ≡ onsets_after started old.now new.now }
 {

@@ -1,4 +1,6 @@
 // The word check: which bit of a word is not what b0 to b7 call for, and which word of a run is the first that is not sound.
+#![tactic(auto)]
+
 ghost use Rattle.std.specs.Prelude.{◌≡◌, ◌≤◌, length};
 ghost use Rattle.basics.specs.Each.{all};
 ghost use Rattle.refusal.specs.Checked.{checked_of};

@@ -1,5 +1,7 @@
 // The steps of a history: a step keeps the bytes that an item had before an edit. How many steps there are, one more pushed behind them,
 // and the bytes before one put back.
+#![tactic(auto)]
+
 ghost use Rattle.std.specs.Prelude.{◌≡◌, ◌≤◌, length};
 ghost use Rattle.refusal.specs.Checked.{checked_of};
 ghost use Rattle.steps.specs.Steps.{depth, held_of, kept_of, pushed, count_on, back_refusal, back_from};
@@ -8,7 +10,7 @@ use refusal::{Checked, Reason, then};
 
 // One step of the history: the item that was edited and the bytes it had before, with zeros behind them.
 #[repr(C)]
-#[derive(Drop)]
+#[derive(Clone, Copy)]
 pub struct Step {
     pub item: u8,
     pub old: [u8; Step::ROOM],

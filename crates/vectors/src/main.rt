@@ -2,6 +2,8 @@
 // three changed words at both ends of the codeword and six that confess, correction off at opening and at a follower, the end of the history, the
 // private bytes edited and undone, a foreign encoder's counters, read and sent, and a day of a desk and a follower over a damaged line. Prints
 // what was compared.
+#![tactic(auto)]
+
 mod day;
 mod desk_cases;
 mod foreign;

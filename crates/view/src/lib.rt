@@ -1,5 +1,7 @@
 // The view of a record: what its bytes say, as values. An unused mode, an unsent time word and a stopped countdown are cases of their
 // own and never show as a number.
+#![tactic(auto)]
+
 ghost use Rattle.std.specs.Prelude.{◌≡◌, ◌&&◌, ◌+◌, ◌*◌, eqb, length, take};
 ghost use Rattle.rules.specs.Rules.{decimal};
 ghost use Rattle.view.specs.View.{time_word_of, milliseconds_of, time_of, picture_of, sound_of, countdown_of, counter_of};

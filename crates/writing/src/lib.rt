@@ -1,4 +1,6 @@
 // Writing a control packet, with an index, and with or without correction: the 262 words of 248 bytes' record, or of the bytes as they stand.
+#![tactic(auto)]
+
 mod parts;
 
 ghost use Rattle.std.specs.Prelude.{◌≡◌, length};

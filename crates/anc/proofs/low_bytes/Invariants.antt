@@ -1,0 +1,13 @@
+-- `anc::low_bytes` meets its contract. The loop's invariant: the first `i` places are filled. The measure is what is left of the length.
+-- Assumes nothing.
+use Rattle.std.proofs.Common.{◌≡◌, ℕ, ◌-◌, List, length, sym, ◌∙◌, arith, rules}
+use Rattle.basics.proofs.Laws.Parts.{Filling, filling-none, filling-more, filling-all}
+use Rattle.anc.specs.Words.{low_bytes}
+use Rattle.anc.proofs.Laws.Words.{low_bytes-length, low_bytes-at, left_alone, filled-whole}
+use Rattle.anc.proofs.low_bytes.Given as goal
+
+abbrev pub invariant-loop-i : goal.invariant-loop-i
+invariant-loop-i l = Filling (low_bytes l.words) l.initial.out l.out l.i
+
+abbrev pub decreases-loop-i : goal.decreases-loop-i
+decreases-loop-i l = length l.words - l.i

@@ -1,0 +1,27 @@
+-- `anc::narrow` meets its contract. The loop's invariant: of the words passed, the largest says whether each fits. The measure is what is
+-- left of the length.
+-- Assumes nothing.
+use Rattle.std.proofs.Common.{◌≡◌, ℕ, ◌-◌, Bool, ◌&&◌, leb, List, length, get_or, ap, ◌∙◌, arith, rules}
+use mathlib.Core.Bool.{and_comm}
+use Rattle.basics.proofs.Laws.Each.{Passing, passing-none, passing-more, passing-all}
+use Rattle.anc.specs.Words.{narrow}
+use Rattle.anc.proofs.Laws.Words.{larger-fits}
+use Rattle.anc.proofs.narrow.Invariants.{fits}
+use Rattle.anc.proofs.narrow.Goals as goal
+use Rattle.anc.proofs.narrow.Goals.{then-word-top, else-word-top}
+
+pub loop-i-preserved : goal.loop-i-preserved
+loop-i-preserved c = let l = c.loop-i in
+    let ws : List ℕ = c.args.words.now in
+    let word : ℕ = get_or ws l.i 0 in
+    let top : fits c.if-word-top.top ≡ (fits l.top && fits word) =
+    elim c.if-word-top.branch [
+      | then-word-top w ↦ ap fits w.top-is ∙ larger-fits l.top word (omega arith)
+      | else-word-top w ↦ ap fits w.top-is ∙ larger-fits word l.top (omega arith) ∙ and_comm (fits word) (fits l.top)
+    ] in
+    passing-more fits ws l.i (fits l.top) (fits c.if-word-top.top) l.invariant (omega arith) top
+
+pub returns : goal.returns
+unfolding narrow
+returns c = let l = c.loop-i in
+    passing-all fits c.args.words.now l.i (fits l.top) l.invariant (omega arith)

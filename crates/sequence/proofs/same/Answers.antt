@@ -1,0 +1,23 @@
+-- `sequence::same` meets its contract. The loop's invariant: the lists are equally long, and the answer is that of the bytes passed. The measure is
+-- what is left of the length.
+-- Assumes nothing.
+use mathlib.Core.Path.{refl, sym, ap}
+use Prim.Native.Nat.{◌-◌}
+use native.Mathlib.Omega.{arith}
+use borrow.Author.Rules.{rules}
+use lib.ListN.{length}
+use Rattle.basics.proofs.Laws.Each.{same-other, Matching, matching-none, matching-more, matching-all}
+use Rattle.sequence.proofs.same.Goals as goal
+
+pub returns-then-a-b : goal.returns-then-a-b
+returns-then-a-b c = sym (same-other _ _ (λ e. c.if-a-b.true (ap length e)))
+
+pub loop-i-preserved : goal.loop-i-preserved
+loop-i-preserved c = let l = c.loop-i in
+    let s = c.args in
+    matching-more s.a.now s.b.now l.i l.ok _ l.invariant (omega arith) refl
+
+pub returns : goal.returns
+returns c = let l = c.loop-i in
+    let s = c.args in
+    matching-all s.a.now s.b.now l.i l.ok l.invariant (omega arith)
