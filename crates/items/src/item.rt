@@ -23,6 +23,7 @@ fn four(bytes: &[u8]) -> [u8; 4]
 }
 
 // Do the bytes keep the item's rule? They are as many as the item has.
+#[tactic(auto, unfolding(crate::specs::Item::rule_of, crate::specs::Item::rule_in, crate::specs::Item::row_of, crate::specs::Items::items, crate::specs::Item::place_of, crate::specs::Item::place_in))]
 pub(crate) fn rule(number: u8, bytes: &[u8]) -> bool
     requires { length bytes.now ≡ (place_of number).length }
     ensures { result ≡ rule_of number bytes.now }
@@ -49,6 +50,7 @@ pub(crate) fn rule(number: u8, bytes: &[u8]) -> bool
 }
 
 // What bytes that break the item's rule are refused for.
+#[tactic(auto, unfolding(crate::specs::Item::reason_of, crate::specs::Item::reason_in, crate::specs::Item::row_of, crate::specs::Items::items))]
 pub(crate) fn reason(number: u8) -> Reason
     ensures { result ≡ reason_of number }
 {

@@ -24,6 +24,7 @@ const FIRST: [usize; 14] = [0, 1, 9, 18, 22, 26, 27, 28, 29, 30, 34, 38, 42, 108
 const LENGTH: [usize; 14] = [0, 8, 9, 4, 4, 1, 1, 1, 1, 4, 4, 4, 2, 141];
 
 // There is no such item.
+#[tactic(auto, unfolding(crate::specs::Item::place_in))]
 fn no_item() -> ItemPlace
     ensures { result ≡ place_in none }
 {
@@ -35,6 +36,7 @@ fn no_item() -> ItemPlace
 }
 
 // The place of the item that has the number. Where there is no such item, that is refused.
+#[tactic(auto, unfolding(crate::specs::Item::place_of))]
 pub fn item_place(number: u8) -> ItemPlace
     ensures { result ≡ place_of number }
 {

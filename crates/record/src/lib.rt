@@ -16,6 +16,7 @@ use refusal::{Checked, Reason, then};
 
 // What the bytes of a record are refused for: another number of them than 248, the first byte of the reserved area that is not zero, or the
 // first item whose rule they break.
+#[tactic(auto, unfolding(crate::specs::Record::record_refusal, crate::specs::Record::content_refusal, crate::specs::Reserved::reserved_refusal, crate::specs::Reserved::reserved_area))]
 pub fn record_refusal(bytes: &[u8]) -> Checked
     ensures { result ≡ checked_of (record_refusal bytes.now) }
 {
@@ -112,6 +113,7 @@ fn copy(out: &mut [u8], from: &[u8])
 }
 
 // The private area of 248 bytes, as the part of the caller's own bytes that it is; of any other number of bytes, an empty part.
+#[tactic(auto, unfolding(crate::specs::Record::private_part, crate::specs::Record::private_start))]
 pub fn private_part(bytes: &[u8]) -> &[u8]
     ensures { (result.now ≡ private_part bytes.now) × (result.ref_ptr ≡ bytes_on (private_start bytes.now) bytes.entry.ref_ptr) }
 {
@@ -123,6 +125,7 @@ pub fn private_part(bytes: &[u8]) -> &[u8]
 }
 
 // The item's part of 248 bytes, of the caller's own; an empty part where there is no such item, or another number of bytes.
+#[tactic(auto, unfolding(crate::specs::Stored::item_lent, crate::specs::Stored::item_start, items::specs::Item::item_part, items::specs::Item::part_in, items::specs::Item::place_of, items::specs::Item::place_in))]
 pub fn item_part(number: u8, bytes: &[u8]) -> &[u8]
     ensures { (result.now ≡ item_lent number bytes.now) × (result.ref_ptr ≡ bytes_on (item_start number bytes.now) bytes.entry.ref_ptr) }
 {

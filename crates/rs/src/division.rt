@@ -47,6 +47,7 @@ fn twice(a: u8) -> u8
 }
 
 // 2 times each byte.
+#[tactic(auto, unfolding(crate::specs::Polynomial::scale))]
 fn doubled(g: [u8; 6]) -> [u8; 6]
     ensures { result ≡ scale 2 g }
 {
@@ -62,6 +63,7 @@ fn doubled(g: [u8; 6]) -> [u8; 6]
 
 // A polynomial times x + 2^j, which gives it the root 2^j: itself a power higher, plus 2^j times itself. The six low coefficients of the
 // product stay.
+#[tactic(auto, unfolding(gf256::specs::Field::pow))]
 pub(crate) fn with_root(p: [u8; 6], j: usize) -> [u8; 6]
     ensures { result ≡ drop 1 (p ⊠ (1 ∷ pow 2 j ∷ [])) }
 {
@@ -91,6 +93,7 @@ fn pack(g: [u8; 6]) -> u64
 }
 
 // The six low bytes of w, the lowest first.
+#[tactic(auto, unfolding(crate::specs::Packed::unpack))]
 pub(crate) fn unpack(w: u64) -> [u8; 6]
     ensures { result ≡ unpacked 6 w }
 {
@@ -133,6 +136,7 @@ fn multiples(table: &mut [u64; 256], g: [u8; 6])
 }
 
 // One turn of the division: the low byte goes, and its multiple of the divisor comes in.
+#[tactic(auto, unfolding(crate::specs::Packed::turn))]
 fn turn(table: &[u64; 256], state: u64) -> u64
     requires { Multiples 256 divisor_bytes table.now }
     ensures { result ≡ turned divisor_bytes state }

@@ -83,6 +83,7 @@ pub(crate) fn cross(wheel: &[u8; 1021], logs: &[u8; 256], a: u8, b: u8, c: u8, d
 }
 
 // The determinant of the columns a b c, d e f and g h i.
+#[tactic(auto, unfolding(crate::specs::Search::determinant))]
 fn minor(
     wheel: &[u8; 1021],
     logs: &[u8; 256],
@@ -118,6 +119,7 @@ fn value(wheel: &[u8; 1021], logs: &[u8; 256], bytes: [u8; 6], x: u8) -> u8
 }
 
 // The six sums of six bytes.
+#[tactic(auto, unfolding(crate::specs::Search::sums_of, gf256::specs::Field::pow, gf256::specs::Field::by_bits, gf256::specs::Field::double))]
 pub(crate) fn sums(wheel: &[u8; 1021], logs: &[u8; 256], bytes: [u8; 6]) -> [u8; 6]
     requires { Tables wheel.now logs.now }
     ensures { result ≡ sums_of bytes }
@@ -164,6 +166,7 @@ fn steps(wheel: &[u8; 1021], logs: &[u8; 256], s: [u8; 6], n: usize, a: u8, b: u
 
 // The greatest exponent of a place that is a root of the locator, or 254. One sum of three powers tells a root, since with
 // the logarithms of a and c in hand x^2 + a x + c / x has indices that are linear in the exponent.
+#[tactic(auto, unfolding(crate::proofs::Laws::Root::scanned))]
 fn top_root(wheel: &[u8; 1021], logs: &[u8; 256], l: Locator) -> usize
     requires { Tables wheel.now logs.now }
     ensures { TopRoot l result }
@@ -201,6 +204,7 @@ pub(crate) fn one_error(wheel: &[u8; 1021], logs: &[u8; 256], s: [u8; 6]) -> Err
 }
 
 // The locator of two errors, from four sums in closed form.
+#[tactic(auto, unfolding(crate::specs::Search::locator_two))]
 fn locator_two(wheel: &[u8; 1021], logs: &[u8; 256], s: [u8; 6]) -> Locator
     requires { Tables wheel.now logs.now }
     ensures { result ≡ locator_two s }
@@ -220,6 +224,7 @@ fn locator_two(wheel: &[u8; 1021], logs: &[u8; 256], s: [u8; 6]) -> Locator
 }
 
 // The locator of three errors: the minors of the Hankel matrix of the six sums, over the first.
+#[tactic(auto, unfolding(crate::specs::Search::locator_three))]
 fn locator_three(wheel: &[u8; 1021], logs: &[u8; 256], s: [u8; 6]) -> Locator
     requires { Tables wheel.now logs.now }
     ensures { result ≡ locator_three s }

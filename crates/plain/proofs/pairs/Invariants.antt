@@ -1,0 +1,19 @@
+-- `plain::pairs` meets its contract; `loop` goes over the second places.
+-- Assumes nothing.
+use mathlib.Core.List.{[], ◌∷◌}
+use Prim.Native.Nat.{◌+◌, ◌-◌}
+use Rattle.plain.proofs.Laws.Try.{Sought, sought-none, sought-more, sought-all, first_more, none_found, first_found}
+use borrow.Author.Rules.{rules}
+use Rattle.plain.proofs.pairs.Given as goal
+
+abbrev pub invariant-loop-j : goal.invariant-loop-j
+invariant-loop-j l = Sought 0 (l.i + 1) (l.i ∷ []) l.s l.tried l.j
+
+abbrev pub invariant-pairs : goal.invariant-pairs
+invariant-pairs l = Sought 1 0 [] l.s l.tried l.i
+
+abbrev pub decreases-loop-j : goal.decreases-loop-j
+decreases-loop-j l = 254 - l.j
+
+abbrev pub decreases-pairs : goal.decreases-pairs
+decreases-pairs l = 254 - l.i

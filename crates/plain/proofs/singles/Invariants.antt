@@ -1,0 +1,13 @@
+-- `plain::singles` meets its contract.
+-- Assumes nothing.
+use mathlib.Core.List.{[]}
+use Prim.Native.Nat.{◌-◌}
+use Rattle.plain.proofs.Laws.Try.{Sought, sought-none, sought-more, sought-all, first_more, none_found, first_found}
+use borrow.Author.Rules.{rules}
+use Rattle.plain.proofs.singles.Given as goal
+
+abbrev pub invariant-singles : goal.invariant-singles
+invariant-singles l = Sought 0 0 [] l.s l.tried l.i
+
+abbrev pub decreases-singles : goal.decreases-singles
+decreases-singles l = 254 - l.i

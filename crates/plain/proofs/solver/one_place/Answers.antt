@@ -1,0 +1,8 @@
+-- `plain::solver::one_place` meets its contract.
+-- Assumes nothing.
+use Rattle.plain.proofs.Laws.Try.{tried-one}
+use borrow.Author.Rules.{rules}
+use Rattle.plain.proofs.solver.one_place.Goals as goal
+
+pub returns : goal.returns
+returns c = tried-one _ _ _ c.judged.ensures

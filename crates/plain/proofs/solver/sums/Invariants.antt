@@ -1,0 +1,14 @@
+-- `plain::solver::sums` meets its contract: a sum at a time.
+-- Assumes nothing.
+use Prim.Native.Nat.{◌-◌, ◌≤◌}
+use mathlib.Core.Path.{refl}
+use native.Mathlib.Omega.{arith}
+use Rattle.plain.proofs.Laws.Sums.{Summed, summed-more}
+use borrow.Author.Rules.{rules}
+use Rattle.plain.proofs.solver.sums.Given as goal
+
+abbrev pub invariant-loop-m : goal.invariant-loop-m
+invariant-loop-m l = Summed l.block l.s l.m × (l.m ≤ 6)
+
+abbrev pub decreases-loop-m : goal.decreases-loop-m
+decreases-loop-m l = 6 - l.m

@@ -1,0 +1,25 @@
+-- `plain::triples` meets its contract; `loop` goes over the second places, `loop2` over the third.
+-- Assumes nothing.
+use mathlib.Core.List.{[], ◌∷◌}
+use Prim.Native.Nat.{◌+◌, ◌-◌}
+use Rattle.plain.proofs.Laws.Try.{Sought, sought-none, sought-more, sought-all, first_more, none_found, first_found}
+use borrow.Author.Rules.{rules}
+use Rattle.plain.proofs.triples.Given as goal
+
+abbrev pub invariant-loop-k : goal.invariant-loop-k
+invariant-loop-k l = Sought 0 (l.j + 1) (l.i ∷ l.j ∷ []) l.s l.tried l.k
+
+abbrev pub invariant-loop-j : goal.invariant-loop-j
+invariant-loop-j l = Sought 1 (l.i + 1) (l.i ∷ []) l.s l.tried l.j
+
+abbrev pub invariant-triples : goal.invariant-triples
+invariant-triples l = Sought 2 0 [] l.s l.tried l.i
+
+abbrev pub decreases-loop-k : goal.decreases-loop-k
+decreases-loop-k l = 254 - l.k
+
+abbrev pub decreases-loop-j : goal.decreases-loop-j
+decreases-loop-j l = 254 - l.j
+
+abbrev pub decreases-triples : goal.decreases-triples
+decreases-triples l = 254 - l.i

@@ -1,0 +1,17 @@
+-- `rs::division::multiples` meets its contract: after k turns the multiples below 2^k stand in the table.
+-- Assumes nothing.
+use borrow.Author.Rules.{rules}
+use Prim.Native.Nat.{ℕ, ◌-◌, ◌≤◌}
+use native.Mathlib.Omega.{arith}
+use lib.ListN.{get_or}
+use mir.Syntax.{w8}
+use mir.Val.{Fits}
+use Rattle.basics.proofs.Laws.Below.{at-below}
+use Rattle.rs.proofs.Laws.Packed.{Filling, fill_none, fill_more, fill-size, fill-all}
+use Rattle.rs.proofs.division.multiples.Given as goal
+
+abbrev pub invariant-loop-k : goal.invariant-loop-k
+invariant-loop-k l = Filling l.k l.size l.initial.row l.row l.table
+
+abbrev pub decreases-loop-k : goal.decreases-loop-k
+decreases-loop-k l = 8 - l.k

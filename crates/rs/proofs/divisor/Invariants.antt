@@ -1,0 +1,28 @@
+-- `rs::divisor` meets its contract: before each turn, what the turns to come make of the product is G without its x^6.
+-- Assumes nothing.
+use borrow.Author.Rules.{rules}
+use mathlib.Core.Path.{◌≡◌, refl, ap, ◌∙◌}
+use mathlib.Core.List.{List, [], ◌∷◌}
+use Prim.Native.Nat.{ℕ, zero, suc, ◌+◌, ◌-◌, ◌≤◌}
+use native.Mathlib.Omega.{arith}
+use native.Mathlib.Numerals.{add-one}
+use lib.ListN.{drop}
+use Rattle.gf256.specs.Field.{◌⊕◌, ◌⊗◌, by_bits, double, pow}
+use Rattle.rs.specs.Polynomial.{◌⊞◌, scale, ◌⊠◌}
+use Rattle.rs.specs.Codeword.{divisor_bytes}
+use Rattle.rs.proofs.divisor.Given as goal
+
+-- what n turns make of p, the first of them with the root 2^j
+unfoldable pub turns : ℕ → ℕ → List ℕ → List ℕ
+turns zero j p = p
+turns (suc n) j p = turns n (suc j) (drop 1 (p ⊠ (1 ∷ pow 2 j ∷ [])))
+
+-- the power at which the loop ends
+abbrev pub end : ℕ
+end = 6
+
+abbrev pub invariant-loop-j : goal.invariant-loop-j
+invariant-loop-j l = (turns (end - l.j) l.j l.product ≡ divisor_bytes) × (l.j ≤ end)
+
+abbrev pub decreases-loop-j : goal.decreases-loop-j
+decreases-loop-j l = end - l.j

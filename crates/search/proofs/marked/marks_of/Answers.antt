@@ -1,0 +1,13 @@
+-- `search::marked::marks_of` meets its contract.
+-- Assumes nothing.
+use mathlib.Core.Path.{ap, ◌∙◌, subst}
+use mathlib.Core.Bool.{Bool}
+use mathlib.Core.List.{List}
+use borrow.Author.Rules.{rules}
+use lib.ListN.{length}
+use Rattle.search.specs.SearchMarked.{marks_by, MarksOf}
+use Rattle.search.proofs.Laws.Flags.{flags-length, flags-confess}
+use Rattle.search.proofs.marked.marks_of.Goals as goal
+
+pub returns : goal.returns
+returns c = subst (λ (marks : List Bool). MarksOf marks c.collect.result) (ap marks_by c.flags.ensures ∙ flags-confess _) c.collect.ensures

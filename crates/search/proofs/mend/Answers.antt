@@ -1,0 +1,21 @@
+-- `search::mend` meets its contract: what was found leads to the codeword, and where nothing was there is none.
+-- Assumes nothing.
+use borrow.Author.Tests.{not-true, not-false}
+use Rattle.basics.proofs.Laws.Below.{at-below}
+use Rattle.search.proofs.Laws.Repair.{found-answer, lost-answer}
+use borrow.Author.Rules.{rules}
+use Rattle.search.proofs.mend.Goals as goal
+
+pub returns-then-not-found : goal.returns-then-not-found
+returns-then-not-found c = let bytes = at-below 256 c.args.block.now (λ i. (c.type_inv.block i).fits) in
+    let A = lost-answer _ _ _ bytes c.requires c.sums.ensures _ c.find_errors-outcome.ensures (not-true _ c.if-not-found.true) in
+    (A.said, A.left)
+
+pub returns : goal.returns
+returns c = let bytes = at-below 256 c.args.block.now (λ i. (c.slice_known-1.given i).fits) in
+    let found = c.find_errors-outcome.ensures in
+    let after = c.patch-3.new.0 in
+    let A = found-answer _ _ _ bytes c.requires c.sums.ensures _ found.placed (found.sound (not-false _ c.if-not-found.false))
+    c.patch.new.0 c.patch-2.new.0 after (at-below 256 after (λ i. (c.type_inv.block i).fits))
+    c.patch.ensures c.patch-2.ensures c.patch-3.ensures in
+    (A.said, A.left)

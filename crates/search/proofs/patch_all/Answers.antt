@@ -1,0 +1,16 @@
+-- `search::patch_all` meets its contract. The loop's invariant: the first `i` values have come in. The measure is how many are left.
+-- Assumes nothing.
+use mathlib.Core.Path.{◌∙◌}
+use Prim.Native.Nat.{◌-◌}
+use native.Mathlib.Omega.{arith}
+use borrow.Author.Rules.{rules}
+use Rattle.search.proofs.Laws.Patched.{Patching, patching-none, patching-more, patching-all}
+use Rattle.search.proofs.patch_all.Goals as goal
+
+pub loop-i-init : goal.loop-i-init
+loop-i-init c = let a = c.args in patching-none a.t2 a.t3 a.block.now (search rules) (search rules)
+
+pub loop-i-preserved : goal.loop-i-preserved
+loop-i-preserved c = let l = c.loop-i in
+    let a = c.args in
+    patching-more a.t2 a.t3 a.block.now (search rules) (search rules) l.block _ l.i l.invariant (omega arith) c.patch.ensures

@@ -1,0 +1,19 @@
+-- `search::solver::top_root` meets its contract: no place above k is a root.
+-- Assumes nothing.
+use borrow.Author.Rules.{rules}
+use mir.Val.{Fits}
+use mir.Syntax.{w8}
+use mathlib.Core.List.{List}
+use mathlib.Core.Logic.{⊎_elim}
+use mathlib.Core.Path.{◌≡◌, sym, ap, ◌∙◌}
+use Prim.Native.Nat.{ℕ, ◌≤◌, ◌<◌, ◌-◌}
+use native.Mathlib.Nat.{eq-or-lt_of_le}
+use native.Mathlib.Omega.{arith}
+use Rattle.search.proofs.Laws.Root.{scanned, top-found, top-none}
+use Rattle.search.proofs.solver.top_root.Given as goal
+
+abbrev pub invariant-loop-k : goal.invariant-loop-k
+invariant-loop-k l = (l.k ≤ 254) × ((j : ℕ) → l.k ≤ j → j < 254 → scanned l.wheel l.la l.lc j ≡ l.b → ⊥)
+
+abbrev pub decreases-loop-k : goal.decreases-loop-k
+decreases-loop-k l = l.k

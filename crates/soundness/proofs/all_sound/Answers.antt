@@ -1,0 +1,25 @@
+-- `soundness::all_sound` meets its contract. The loop's invariant: the answer is that of the words passed. The measure is what is left of the
+-- length.
+-- Assumes nothing.
+use mathlib.Core.Path.{sym, ap, ◌∙◌}
+use mathlib.Core.Bool.{◌&&◌}
+use mathlib.Core.List.{List}
+use Prim.Native.Nat.{ℕ, ◌-◌}
+use native.Mathlib.Omega.{arith}
+use borrow.Author.Rules.{rules}
+use lib.Dec.{eqb}
+use lib.ListN.{length, get_or}
+use Rattle.basics.proofs.Laws.Each.{Passing, passing-none, passing-more, passing-all}
+use Rattle.anc.specs.Word.{is_sound}
+use Rattle.anc.proofs.Laws.Word.{sound-word}
+use Rattle.soundness.proofs.all_sound.Goals as goal
+
+pub loop-i-preserved : goal.loop-i-preserved
+loop-i-preserved c = let l = c.loop-i in
+    let ws : List ℕ = c.args.words.now in
+    let word : ℕ = get_or ws l.i 0 in
+    passing-more is_sound ws l.i l.ok _ l.invariant (omega arith) (ap (◌&&◌ l.ok) (ap (eqb word) c.word_of.ensures ∙ sym (sound-word word)))
+
+pub returns : goal.returns
+returns c = let l = c.loop-i in
+    passing-all is_sound c.args.words.now l.i l.ok l.invariant (omega arith)
