@@ -25,6 +25,7 @@ impl Step {
 }
 
 // The steps that are there: a count above the depth, which no opening leads to, is taken for the depth.
+#[tactic(auto, unfolding(crate::specs::Steps::held_of))]
 pub fn held(count: u8) -> u8
     ensures { (result ≡ held_of count) × (result ≤ depth) }
 {
@@ -35,6 +36,7 @@ pub fn held(count: u8) -> u8
 }
 
 // How many steps there are after one more.
+#[tactic(auto, unfolding(crate::specs::Steps::count_on))]
 pub fn count_on(count: u8) -> u8
     ensures { result ≡ count_on count }
 {

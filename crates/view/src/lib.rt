@@ -119,12 +119,14 @@ pub struct RecordView {
 }
 
 // The number that a packed decimal byte stands for.
+#[tactic(auto, unfolding(rules::specs::Rules::decimal))]
 fn decimal_of(b: u8) -> u8
     ensures { result ≡ decimal b }
 {
     b / 16 * 10 + b % 16
 }
 
+#[tactic(auto, unfolding(crate::specs::View::time_word_of))]
 fn time_word_of(b: u8) -> TimeWord
     ensures { result ≡ time_word_of b }
 {
@@ -141,6 +143,7 @@ fn hundreds(high: u8, low: u8) -> u16
     decimal_of(high) as u16 * 100 + decimal_of(low) as u16
 }
 
+#[tactic(auto, unfolding(crate::specs::View::milliseconds_of))]
 fn milliseconds_of(high: u8, low: u8) -> Milliseconds
     ensures { result ≡ milliseconds_of high low }
 {
@@ -150,6 +153,7 @@ fn milliseconds_of(high: u8, low: u8) -> Milliseconds
     Milliseconds::Sent(hundreds(high, low))
 }
 
+#[tactic(auto, unfolding(crate::specs::View::time_of))]
 fn time_of(bytes: &[u8]) -> Time
     requires { length bytes.now ≡ 248 }
     ensures { result ≡ time_of bytes.now }
@@ -176,6 +180,7 @@ fn only_for(w0: u8, value: u8, bit: bool) -> bool
     false
 }
 
+#[tactic(auto, unfolding(crate::specs::View::picture_of, rules::specs::Rules::low_half))]
 fn picture_of(w0: u8, w1: u8, w2: u8, w3: u8) -> PictureMode
     ensures { result ≡ picture_of w0 w1 w2 w3 }
 {
@@ -196,6 +201,7 @@ fn picture_of(w0: u8, w1: u8, w2: u8, w3: u8) -> PictureMode
     })
 }
 
+#[tactic(auto, unfolding(crate::specs::View::sound_of))]
 fn sound_of(b: u8) -> SoundMode
     ensures { result ≡ sound_of b }
 {
@@ -208,6 +214,7 @@ fn sound_of(b: u8) -> SoundMode
     })
 }
 
+#[tactic(auto, unfolding(crate::specs::View::countdown_of))]
 fn countdown_of(b: u8) -> Countdown
     ensures { result ≡ countdown_of b }
 {
@@ -217,6 +224,7 @@ fn countdown_of(b: u8) -> Countdown
     Countdown::Running(b)
 }
 
+#[tactic(auto, unfolding(crate::specs::View::counter_of))]
 fn counter_of(b: u8) -> Counter
     ensures { result ≡ counter_of b }
 {
@@ -226,6 +234,7 @@ fn counter_of(b: u8) -> Counter
     Counter::At(b)
 }
 
+#[tactic(auto, unfolding(crate::specs::View::counters_of))]
 fn counters_of(bytes: &[u8]) -> Counters
     requires { length bytes.now ≡ 248 }
     ensures { result ≡ counters_of bytes.now }
@@ -238,6 +247,7 @@ fn counters_of(bytes: &[u8]) -> Counters
     }
 }
 
+#[tactic(auto, unfolding(crate::specs::View::countdowns_of))]
 fn countdowns_of(bytes: &[u8]) -> Countdowns
     requires { length bytes.now ≡ 248 }
     ensures { result ≡ countdowns_of bytes.now }
@@ -274,6 +284,7 @@ fn station_of(bytes: &[u8]) -> [u8; 8]
 }
 
 // The view of 248 bytes.
+#[tactic(auto, unfolding(crate::specs::View::view_of))]
 fn view_of(bytes: &[u8]) -> RecordView
     requires { length bytes.now ≡ 248 }
     ensures { result ≡ view_of bytes.now }

@@ -5,6 +5,7 @@ ghost use Rattle.anc.specs.Words.{sound_words, flag};
 ghost use Rattle.writing.specs.Layout.{kind, header_word, packet_words};
 
 // The header word.
+#[tactic(auto, unfolding(crate::specs::Layout::header_word))]
 fn header(correction: bool, ci: u8) -> u16
     requires { ci ≤ 15 }
     ensures { result ≡ header_word correction ci }
@@ -17,6 +18,7 @@ fn header(correction: bool, ci: u8) -> u16
 }
 
 // Fills seven words with the flag, the kind and the header.
+#[tactic(auto, unfolding(anc::specs::Words::flag, crate::specs::Layout::kind))]
 fn front(correction: bool, ci: u8, out: &mut [u16])
     requires { (ci ≤ 15) × (length out.old ≡ 7) }
     ensures { out.new ≡ flag ++ kind ++ header_word correction ci ∷ [] }

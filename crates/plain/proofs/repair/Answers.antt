@@ -20,7 +20,7 @@ returns-then-not-e c = let block = c.args.block.now in
 
 pub returns : goal.returns
 returns c = let block = c.args.block.now in
-    let after = c.mend.new.0 in
+    let after = c.mend.new.block in
     answered block after true _ c.if-block-ne254.false
     (found-answer block _ c.if-block-ne254.false (at-below 256 block (λ i. (c.slice_known-1.given i).fits)) c.sums.ensures _ after (c.first_places-e.ensures.right (not-false _ c.if-not-e.false))
     (at-below 256 after (λ i. (c.type_inv.block i).fits)) c.mend.ensures)

@@ -24,4 +24,4 @@ returns c = let a = c.args in (
     )
 
 pub slice_bounds-result-end-2 : goal.slice_bounds-result-end-2
-slice_bounds-result-end-2 c = ?
+slice_bounds-result-end-2 c = let h = place_inside _ _ c.item_place-place.ensures in search rules

@@ -8,14 +8,14 @@ use Rattle.search.proofs.mend.Goals as goal
 
 pub returns-then-not-found : goal.returns-then-not-found
 returns-then-not-found c = let bytes = at-below 256 c.args.block.now (λ i. (c.type_inv.block i).fits) in
-    let A = lost-answer _ _ _ bytes c.requires c.sums.ensures _ c.find_errors-outcome.ensures (not-true _ c.if-not-found.true) in
+    let A = lost-answer _ _ _ bytes c.requires c.sums.ensures _ c.find_errors-outcome.ensures c.if-not-found.true in
     (A.said, A.left)
 
 pub returns : goal.returns
 returns c = let bytes = at-below 256 c.args.block.now (λ i. (c.slice_known-1.given i).fits) in
     let found = c.find_errors-outcome.ensures in
-    let after = c.patch-3.new.0 in
-    let A = found-answer _ _ _ bytes c.requires c.sums.ensures _ found.placed (found.sound (not-false _ c.if-not-found.false))
-    c.patch.new.0 c.patch-2.new.0 after (at-below 256 after (λ i. (c.type_inv.block i).fits))
+    let after = c.patch-3.new.block in
+    let A = found-answer _ _ _ bytes c.requires c.sums.ensures _ found.placed (found.sound c.if-not-found.false)
+    c.patch.new.block c.patch-2.new.block after (at-below 256 after (λ i. (c.type_inv.block i).fits))
     c.patch.ensures c.patch-2.ensures c.patch-3.ensures in
     (A.said, A.left)

@@ -15,18 +15,18 @@ returns-then-not-found c = let block = c.args.block.now in
       found = λ q. never (sym q);
       lost = λ q marks em M.
           lost-marked block _ _ bytes c.requires.0 c.sums.ensures c.args.marks c.requires.3 c.find_marked-outcome.result c.find_marked-outcome.ensures marks em M
-          (not-true _ c.if-not-found.true);
+          c.if-not-found.true;
       kept = λ q. refl;
     }
 
 pub returns : goal.returns
 returns c = let block = c.args.block.now in
     let bytes = at-below 256 block (λ i. (c.slice_known-1.given i).fits) in
-    let after = c.patch_all.new.0 in
+    let after = c.patch_all.new.block in
     record {
       found = λ q marks em M.
           found-marked block _ _ bytes c.requires.0 c.sums.ensures c.args.marks c.requires.3 c.find_marked-outcome.result c.find_marked-outcome.ensures marks em M
-          (not-false _ c.if-not-found.false) after (at-below 256 after (λ i. (c.type_inv.block i).fits)) c.patch_all.ensures;
+          c.if-not-found.false after (at-below 256 after (λ i. (c.type_inv.block i).fits)) c.patch_all.ensures;
       lost = λ q. never q;
       kept = λ q. never q;
     }

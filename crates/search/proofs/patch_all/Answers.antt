@@ -8,9 +8,9 @@ use Rattle.search.proofs.Laws.Patched.{Patching, patching-none, patching-more, p
 use Rattle.search.proofs.patch_all.Goals as goal
 
 pub loop-i-init : goal.loop-i-init
-loop-i-init c = let a = c.args in patching-none a.t2 a.t3 a.block.now (search rules) (search rules)
+loop-i-init c = let a = c.args in patching-none a.places a.values a.block.now (search rules) (search rules)
 
 pub loop-i-preserved : goal.loop-i-preserved
 loop-i-preserved c = let l = c.loop-i in
     let a = c.args in
-    patching-more a.t2 a.t3 a.block.now (search rules) (search rules) l.block _ l.i l.invariant (omega arith) c.patch.ensures
+    patching-more a.places a.values a.block.now (search rules) (search rules) l.block _ l.i l.invariant (omega arith) c.patch.ensures

@@ -12,7 +12,7 @@ use Rattle.search.proofs.solver.two_errors.Goals as goal
 pub returns-then-not-steps : goal.returns-then-not-steps
 returns-then-not-steps c = let locator = c.locator_two-l in
     not-two _ _ _ c.no_errors.ensures
-    (λ k y m z hk hm py hy pz hz E. never (sym (c.steps.ensures (steps-two _ k y m z _ hk hm py hy pz hz c.requires.1 E _ locator.ensures)) ∙ not-true _ c.if-not-steps.true))
+    (λ k y m z hk hm py hy pz hz E. never (sym (c.steps.ensures (steps-two _ k y m z _ hk hm py hy pz hz c.requires.1 E _ locator.ensures)) ∙ c.if-not-steps.true))
 
 pub returns-then-k-ge254 : goal.returns-then-k-ge254
 returns-then-k-ge254 c = let locator = c.locator_two-l in

@@ -1,0 +1,16 @@
+-- `writing::parts::fill` meets its contract: three parts laid over the buffer, and the checksum of what they are.
+-- Assumes nothing.
+use borrow.Author.Rules.{rules}
+use lib.ListN.{length-set}
+use Rattle.anc.proofs.Laws.Words.{sound-filled}
+use Rattle.writing.proofs.Laws.Writing.{packet-filled}
+use Rattle.writing.proofs.parts.fill.Goals as goal
+
+pub returns : goal.returns
+returns c = packet-filled c.args.correction c.args.ci c.args.bytes.now c.args.out.now _ _ _ _
+    c.requires.1
+    c.requires.2
+    c.front.ensures
+    (sound-filled _ c.args.bytes.now _ c.sound_words.ensures.1 (search rules))
+    c.guard.ensures
+    c.checksum-sum.ensures
