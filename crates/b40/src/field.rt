@@ -5,6 +5,7 @@ ghost use Rattle.anc.specs.Words.{narrow};
 ghost use Rattle.b40.specs.Field.{bits_each, number_of, numbers, field_of, part, words_of, is_place};
 
 // Is the line 1 to 1,125, and the offset at most 2,199?
+#[tactic(auto, unfolding(crate::specs::Field::is_place))]
 pub(crate) fn is_place(line: u16, offset: u16) -> bool
     ensures { result ≡ is_place line offset }
 {
@@ -72,6 +73,7 @@ pub(crate) fn first(field: &[u8]) -> u32
 }
 
 // Ten bits of a field, from bit 8k + from on: they lie in byte k and the next.
+#[tactic(auto, unfolding(crate::specs::Field::part, crate::specs::Field::bits_of))]
 fn word(field: &[u8], k: usize, from: usize) -> u16
     requires { (k + 1 < length field.now) × (from ≤ 6) }
     ensures { result ≡ part field.now (8 * k + from) 10 }
@@ -80,6 +82,7 @@ fn word(field: &[u8], k: usize, from: usize) -> u16
 }
 
 // Fills 262 words with the packet in a field. The flag takes the place of what stands before the words.
+#[tactic(auto, unfolding(crate::specs::Field::part))]
 pub(crate) fn write_words(field: &[u8], out: &mut [u16])
     requires { (length field.now ≡ 328) × (length out.old ≡ 262) }
     ensures { out.new ≡ words_of field.now }

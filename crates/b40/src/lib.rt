@@ -12,6 +12,7 @@ use refusal::{Checked, Reason, then};
 use writing::Written;
 
 // Packs a packet's words, with Y/C, line and offset, into a field. A refusal leaves `out` as it was.
+#[tactic(auto, unfolding(crate::specs::Packing::packed_of, crate::specs::Packing::pack_leaves))]
 pub fn pack(yc: bool, line: u16, offset: u16, words: &[u16], out: &mut [u8]) -> Written
     ensures { (result ≡ packed_of line offset words.now (length out.old)) × (out.new ≡ pack_leaves yc line offset words.now out.old) }
 {
@@ -26,6 +27,7 @@ pub fn pack(yc: bool, line: u16, offset: u16, words: &[u16], out: &mut [u8]) -> 
 }
 
 // What packing is refused for, with room for so many bytes.
+#[tactic(auto, unfolding(crate::specs::Packing::pack_refusal))]
 fn pack_refusal(line: u16, offset: u16, words: &[u16], room: usize) -> Checked
     ensures { result ≡ checked_of (pack_refusal line offset words.now room) }
 {

@@ -37,6 +37,7 @@ impl Desk {
 
     // A desk with the opening record, CI 0 and no history. It sends with correction on: where off is asked for that is refused, beside the same
     // desk.
+    #[tactic(auto, unfolding(crate::specs::Desk::opened, crate::specs::Desk::fresh_desk, crate::specs::Desk::open_refusal, crate::specs::Desk::no_step))]
     pub fn open(correction: bool) -> Turn
         ensures { result ≡ opened correction }
     {
@@ -87,6 +88,7 @@ impl Desk {
     }
 
     // Puts back the bytes before the latest step, and takes the step away. CI stays.
+    #[tactic(auto, unfolding(crate::specs::Desk::undone))]
     pub fn undo(self) -> Turn
         ensures { result ≡ undone self }
     {
@@ -117,6 +119,7 @@ impl Desk {
 
     // Writes the packet of the desk's bytes as they stand, with correction on and the present CI, and counts on from that, 15 to 0. They need no
     // check: those of a desk that was opened are always a record. A refusal leaves `out` as it was.
+    #[tactic(auto, unfolding(crate::specs::Desk::sent, crate::specs::Desk::send_leaves, crate::specs::Desk::send_refusal))]
     pub fn send(mut self, out: &mut [u16]) -> Turn
         ensures { (result ≡ sent self (length out.old)) × (out.new ≡ send_leaves self out.old) }
     {
