@@ -12,8 +12,7 @@ use Rattle.soundness.specs.declared.Soundness.TheVariants.{Unsound, Refused}
 use Rattle.soundness.specs.Check.{soundness_of, wrong_in, refusal_in}
 use Rattle.soundness.proofs.Laws.Check.{checked-sound, not_sound}
 use Rattle.reading.specs.Reading.{is_header}
-use Rattle.reading.proofs.reader.is_header.Statement.{statement}
-use Rattle.reading.proofs.reader.is_header.Tie as tie
+use Rattle.reading.proofs.reader.is_header.Goals as goal
 
 -- by what the check of a word answered
 module _ (w : ℕ) where
@@ -26,17 +25,11 @@ module _ (w : ℕ) where
   refused : (why : Refusal) → soundness_of w ≡ Refused why → false ≡ is_header w
   refused why e = sym (ap bits (not_sound w (λ s. some-ne-none why (ap refusal_in (sym e ∙ s)))))
 
-returns : tie.Need-returns
-returns c =
-    let k = c.before.before in
-    sym (ap (bits k.before.args.word) (checked-sound _ (sym k.check-word.ensures ∙ c.enum_told.given.1)))
+pub returns-in-Sound : goal.returns-in-Sound
+returns-in-Sound c = sym (ap (bits c.args.word) (checked-sound _ (sym c.check_word-soundness.ensures ∙ c.in-Sound.is)))
 
-returns-2 : tie.Need-returns-2
-returns-2 c = let k = c.before.before in unsound k.before.args.word _ (sym k.check-word.ensures ∙ c.enum-told2.given.1)
+pub returns-in-Unsound : goal.returns-in-Unsound
+returns-in-Unsound c = unsound c.args.word _ (sym c.check_word-soundness.ensures ∙ c.in-Unsound.is)
 
-returns-3 : tie.Need-returns-3
-returns-3 c = let k = c.before.before in refused k.before.args.word _ (sym k.check-word.ensures ∙ c.enum-told3.given.1)
-
-pub is-header-spec : {M : Type 1} → statement M
-is-header-spec =
-    tie.close (tie.spec (λ c κs. search rules) (λ c. search rules) (λ c. search rules) (λ c. search rules) returns returns-2 returns-3)
+pub returns-in-Refused : goal.returns-in-Refused
+returns-in-Refused c = refused c.args.word _ (sym c.check_word-soundness.ensures ∙ c.in-Refused.is)

@@ -1,0 +1,54 @@
+-- `reading::read_packet_into` meets its contract: the record is written where there is a packet and room.
+-- Assumes nothing.
+use mathlib.Core.Path.{◌≡◌, ap, ◌∙◌}
+use mathlib.Core.List.{List}
+use Prim.Native.Nat.{ℕ}
+use native.Mathlib.Omega.{arith}
+use lib.ListN.{length, take}
+use lib.Seq.{length-take-le}
+use Rattle.record.specs.Record.{record_of}
+use Rattle.reading.specs.Reading.{correction_of, protected_of, read_record}
+use Rattle.reading.specs.Answer.{guard_bytes}
+use Rattle.reading.proofs.Laws.Answer.{answer-long, answer-room, answer-bytes, data-guard, into-full, into-accepted, left-written, into-refused, left-as-it-was}
+use borrow.Author.Rules.{rules}
+use Rattle.reading.proofs.read_packet_into.Goals as goal
+
+-- what is written is the record of 248 bytes, and that is the record that is read
+module _ (ws bytes : List ℕ) (n : length bytes ≡ 254) (e : bytes ≡ guard_bytes (correction_of ws) (protected_of ws)) where
+  long : length (take 248 bytes) ≡ 248
+  long = length-take-le 248 bytes (omega arith)
+
+  is_read : record_of (take 248 bytes) ≡ read_record ws
+  unfolding read_record
+  is_read = ap record_of (ap (take 248) e ∙ data-guard ws)
+
+pub packet-requires : goal.packet-requires
+packet-requires c = let check = c.check-checked.ensures in
+    let told = c.in-Passed.is in
+    (answer-long _ _ check.0 told, answer-room _ _ check.0 _ told (answer-bytes _ _ check.0 _ _ told check.1))
+
+pub returns-in-Passed-wrote : goal.returns-in-Passed-wrote
+returns-in-Passed-wrote c = let ws = c.args.words.now in
+    let check = c.check-checked.ensures in
+    let told = c.in-Passed.is in
+    let bytes = answer-bytes ws _ check.0 _ _ told check.1 in
+    let room = answer-room ws _ check.0 _ told bytes in (
+      into-accepted ws _ check.0 _ c.args.out.now (long ws _ room bytes) told _ c.write_record-wrote.ensures.0 _ _ c.in-Passed-wrote.is bytes c.packet.ensures,
+      c.write_record-wrote.ensures.1 ∙ left-written ws _ check.0 _ c.args.out.now (long ws _ room bytes) told (is_read ws _ room bytes),
+    )
+
+pub returns-in-Refused-wrote : goal.returns-in-Refused-wrote
+returns-in-Refused-wrote c = let ws = c.args.words.now in
+    let check = c.check-checked.ensures in
+    let told = c.in-Passed.is in
+    let bytes = answer-bytes ws _ check.0 _ _ told check.1 in
+    let room = answer-room ws _ check.0 _ told bytes in (
+      into-full ws _ check.0 _ c.args.out.now (long ws _ room bytes) told _ c.write_record-wrote.ensures.0 _ c.in-Refused-wrote.is,
+      c.write_record-wrote.ensures.1 ∙ left-written ws _ check.0 _ c.args.out.now (long ws _ room bytes) told (is_read ws _ room bytes),
+    )
+
+pub returns-in-Refused : goal.returns-in-Refused
+returns-in-Refused c = let out = c.args.out.now in
+    let check = c.check-checked.ensures in
+    let told = c.in-Refused.is in
+    (into-refused _ _ check.0 out _ told, left-as-it-was _ _ check.0 out _ told)

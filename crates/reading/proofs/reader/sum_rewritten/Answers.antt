@@ -1,0 +1,12 @@
+-- `reading::reader::sum_rewritten` meets its contract: the four words before the protected ones, then the sound words.
+-- Assumes nothing.
+use mathlib.Core.Path.{ap, ◌∙◌}
+use Rattle.anc.specs.Word.{checksum_of}
+use Rattle.anc.proofs.Laws.Words.{sound-filled}
+use Rattle.reading.proofs.Laws.Reader.{four-more, summed-on}
+use borrow.Author.Rules.{rules}
+use Rattle.reading.proofs.reader.sum_rewritten.Goals as goal
+
+pub returns : goal.returns
+returns c = c.checksum.ensures
+    ∙ ap checksum_of (summed-on c.args.words.now c.args.bytes.now _ c.requires.0 (sound-filled _ c.args.bytes.now _ c.sound_words.ensures.1 c.requires.1))
