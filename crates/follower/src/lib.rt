@@ -107,6 +107,7 @@ impl Follower {
     pub const CEILING: u32 = 4294967295;
 
     // Nothing has arrived.
+    #[tactic(auto, unfolding(crate::specs::Follower::opened))]
     pub fn open() -> Self
         ensures { result ≡ opened }
     {
@@ -128,6 +129,7 @@ impl Follower {
     }
 
     // Takes a packet in. A refusal changes the count of refusals alone.
+    #[tactic(auto, unfolding(crate::specs::Follower::refuses))]
     pub fn follow(self, words: &[u16]) -> Followed
         ensures { result ≡ followed self words.now }
     {
@@ -143,6 +145,7 @@ impl Follower {
     }
 
     // The record shown: the one that arrived last, which is one of the two.
+    #[tactic(auto, unfolding(crate::specs::Follower::shown_by))]
     pub fn shown(self) -> [u8; 248]
         ensures { result ≡ shown_by self }
     {
@@ -154,6 +157,7 @@ impl Follower {
     }
 
     // The record shown, into lent room. A refusal leaves `out` as it was.
+    #[tactic(auto, unfolding(crate::specs::Follower::shown_refusal, crate::specs::Follower::shown_leaves))]
     pub fn shown_into(self, out: &mut [u8]) -> Checked
         ensures { (result ≡ checked_of (shown_refusal (length out.old))) × (out.new ≡ shown_leaves self out.old) }
     {
@@ -170,6 +174,7 @@ impl Follower {
     }
 
     // What follows on a packet that is accepted.
+    #[tactic(auto, unfolding(crate::specs::Follower::accepts))]
     fn accept(self, p: reading::Packet, arrived: [u8; 248]) -> Followed
         ensures { result ≡ accepts self p arrived }
     {
@@ -182,6 +187,7 @@ impl Follower {
     }
 
     // Is the packet the one before again?
+    #[tactic(auto, unfolding(crate::specs::Follower::step_to, crate::specs::Follower::before_again))]
     fn before_again(self, p: reading::Packet, arrived: [u8; 248]) -> bool
         ensures { result ≡ before_again self p arrived }
     {
@@ -200,6 +206,7 @@ impl Follower {
     }
 
     // The packet's kind; `again` says whether it is the one before.
+    #[tactic(auto, unfolding(crate::specs::Follower::arrived_as, crate::specs::Follower::step_to))]
     fn kind(self, p: reading::Packet, again: bool, arrived: [u8; 248]) -> Kind
         requires { again ≡ before_again self p arrived }
         ensures { result ≡ arrived_as self p arrived }
@@ -214,6 +221,7 @@ impl Follower {
     }
 
     // What the packet brings, against the record at the position.
+    #[tactic(auto, unfolding(crate::specs::Follower::arrival_of, crate::specs::Follower::step_to))]
     fn arrival(self, p: reading::Packet, again: bool, arrived: [u8; 248]) -> Arrival
         requires { again ≡ before_again self p arrived }
         ensures { result ≡ arrival_of self p arrived }
@@ -232,6 +240,7 @@ impl Follower {
     }
 
     // The arrival is counted, and its record held and shown.
+    #[tactic(auto, unfolding(crate::specs::Follower::follower_after))]
     fn hold(self, arrival: Arrival, again: bool, arrived: [u8; 248]) -> Self
         ensures { result ≡ follower_after self arrival again arrived }
     {
@@ -250,6 +259,7 @@ impl Follower {
     }
 
     // One more is refused, and nothing else changes.
+    #[tactic(auto, unfolding(crate::specs::Follower::refused_after))]
     fn refuse(self) -> Self
         ensures { result ≡ refused_after self }
     {

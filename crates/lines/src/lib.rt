@@ -30,6 +30,7 @@ fn write_three(page: Page, word: &[u8], a: u16, b: u16, c: u16) -> Page
 }
 
 // The page of a refusal.
+#[tactic(auto, unfolding(crate::specs::Shown::refused_word))]
 fn refused(why: refusal::Refusal) -> Page
     ensures { result ≡ written blank (refused_line why) }
 {
@@ -42,6 +43,7 @@ fn refused(why: refusal::Refusal) -> Page
 }
 
 // Correction, CI, fixed.
+#[tactic(auto, unfolding(crate::specs::Shown::packet_line, crate::specs::Shown::packet_word))]
 fn write_packet(page: Page, p: reading::Packet) -> Page
     ensures { result ≡ written page (packet_line p) }
 {
@@ -78,6 +80,7 @@ fn write_items(page: Page, rec: &[u8]) -> Page
 }
 
 // Y/C, line, offset, on a blank page.
+#[tactic(auto, unfolding(crate::specs::Shown::field_line, crate::specs::Shown::field_word))]
 fn field_line(head: b40::Head) -> Page
     ensures { result ≡ written blank (field_line head.yc head.line head.offset) }
 {

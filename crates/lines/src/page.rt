@@ -9,6 +9,7 @@ pub struct Page {
     pub length: usize,
 }
 
+#[tactic(auto, unfolding(crate::specs::Text::blank))]
 pub(crate) fn fresh() -> Page
     ensures { result ≡ blank }
 {
@@ -19,6 +20,7 @@ pub(crate) fn fresh() -> Page
 }
 
 // One character more, where there is a place for it.
+#[tactic(auto, unfolding(crate::specs::Text::pushed))]
 fn push(page: Page, c: u8) -> Page
     ensures { result ≡ pushed page c }
 {
@@ -49,6 +51,7 @@ pub(crate) fn write(page: Page, text: &[u8]) -> Page
 }
 
 // The code of a digit below 16.
+#[tactic(auto, unfolding(crate::specs::Text::digit))]
 fn code(d: u8) -> u8
     requires { d < 16 }
     ensures { result ≡ digit d }
@@ -60,6 +63,7 @@ fn code(d: u8) -> u8
 }
 
 // How many of five digits stand in front of the first that counts.
+#[tactic(auto, unfolding(crate::specs::Text::leading))]
 fn first(n: u16) -> usize
     ensures { (result ≡ leading n) × (result ≤ 4) }
 {
@@ -94,6 +98,7 @@ pub(crate) fn write_number(page: Page, n: u16) -> Page
 }
 
 // A byte in hexadecimal, with a space in front.
+#[tactic(auto, unfolding(crate::specs::Text::hex_byte))]
 fn write_hex(page: Page, b: u8) -> Page
     ensures { result ≡ written page (hex_byte b) }
 {

@@ -1,0 +1,16 @@
+-- `follower::Follower::shown_into` meets its contract. The loop's invariant: the first `i` places are filled. The measure is what is left of 248.
+-- Assumes nothing.
+use mathlib.Core.Path.{◌≡◌, refl, sym, ◌∙◌}
+use Prim.Native.Nat.{◌-◌}
+use native.Mathlib.Omega.{arith}
+use borrow.Author.Rules.{rules}
+use borrow.Author.Tests.{eq-eqb, ne_eqb}
+use lib.ListN.{length}
+use Rattle.basics.proofs.Laws.Parts.{Filling, filling-none, filling-more, filling-all}
+use Rattle.follower.specs.Follower.{shown_refusal, shown_leaves}
+use Rattle.follower.proofs.Follower.shown_into.Goals as goal
+
+pub loop-i-preserved : goal.loop-i-preserved
+loop-i-preserved c = let l = c.loop-i in
+    let long : length c.shown-shown.result ≡ 248 = search rules in
+    filling-more c.shown-shown.result c.args.out.now (long ∙ sym c.if-out-ne248.false) l.out l.i _ l.invariant (omega (arith, c.if-out-ne248.false)) refl
