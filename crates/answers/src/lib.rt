@@ -120,6 +120,7 @@ fn refused(why: refusal::Refusal) -> AyAnswer
 }
 
 // Of a check.
+#[tactic(auto, unfolding(crate::specs::Answers::answer_by))]
 pub fn checked(checked: refusal::Checked) -> AyAnswer
     ensures { result ≡ answer_by (refusal_in checked) }
 {
@@ -133,6 +134,7 @@ pub fn checked(checked: refusal::Checked) -> AyAnswer
 }
 
 // Of writing.
+#[tactic(auto, unfolding(crate::specs::Answers::answer_by))]
 pub fn written(written: writing::Written) -> AyAnswer
     ensures { result ≡ answer_by (refusal_in_written written) }
 {
@@ -146,6 +148,7 @@ pub fn written(written: writing::Written) -> AyAnswer
 }
 
 // Of the word check.
+#[tactic(auto, unfolding(crate::specs::Answers::word_from))]
 pub fn word(soundness: soundness::Soundness) -> AyWord
     ensures { result ≡ word_from soundness }
 {
@@ -165,6 +168,7 @@ pub fn word(soundness: soundness::Soundness) -> AyWord
 }
 
 // Of the check of a codeword.
+#[tactic(auto, unfolding(crate::specs::Answers::verdict_from))]
 pub fn verdict(verdict: rs::Verdict) -> AyVerdict
     ensures { result ≡ verdict_from verdict }
 {
@@ -191,6 +195,7 @@ pub fn verdict(verdict: rs::Verdict) -> AyVerdict
 }
 
 // Of reading.
+#[tactic(auto, unfolding(crate::specs::Answers::packet_from))]
 pub fn packet(reading: reading::Reading) -> AyPacket
     ensures { result ≡ packet_from reading }
 {
@@ -218,6 +223,7 @@ pub fn packet(reading: reading::Reading) -> AyPacket
 }
 
 // Of repair.
+#[tactic(auto, unfolding(crate::specs::Answers::repaired_from))]
 pub fn repaired(repaired: repair::Repaired) -> AyRepaired
     ensures { result ≡ repaired_from repaired }
 {
@@ -239,6 +245,7 @@ pub fn repaired(repaired: repair::Repaired) -> AyRepaired
 }
 
 // Of unpacking.
+#[tactic(auto, unfolding(crate::specs::Answers::field_from))]
 pub fn field(unpacked: b40::Unpacked) -> AyField
     ensures { result ≡ field_from unpacked }
 {
@@ -264,6 +271,7 @@ pub fn field(unpacked: b40::Unpacked) -> AyField
 }
 
 // Of a turn of the desk.
+#[tactic(auto, unfolding(crate::specs::Answers::turn_from))]
 pub fn turn(turn: desk::Turn) -> AyTurn
     ensures { result ≡ turn_from turn }
 {
@@ -278,6 +286,7 @@ pub fn turn(turn: desk::Turn) -> AyTurn
 }
 
 // The number of a kind.
+#[tactic(auto, unfolding(crate::specs::Answers::kind_number))]
 fn kind_number(kind: Kind) -> u8
     ensures { result ≡ kind_number kind }
 {
@@ -290,6 +299,7 @@ fn kind_number(kind: Kind) -> u8
 }
 
 // Of what a follower heard.
+#[tactic(auto, unfolding(crate::specs::Answers::heard_from, crate::specs::Answers::followed_from))]
 pub fn followed(followed: follower::Followed) -> AyFollowed
     ensures { result ≡ followed_from followed }
 {
