@@ -6,7 +6,8 @@ use mathlib.Core.Bool.{Bool, true, false}
 use mathlib.Core.List.{List, [], ◌∷◌, ◌++◌}
 use Prim.Native.Nat.{ℕ, zero, suc, ◌+◌, ◌≤◌}
 use native.Mathlib.Omega.{arith}
-use denote.Ref.{Bor}
+use denote.Bor.{Bor}
+use denote.MutBor.{MutBor}
 use lib.Dec.{lit<}
 use lib.ListN.{length, take, drop, replicate, length-append, length-drop}
 use Rattle.basics.specs.Each.{all}
@@ -50,6 +51,10 @@ use Rattle.promises.proofs.Laws.Line.{Ordinary, waiting-ordinary, latest-ordinar
 abbrev lend : {X : Type 0} → X → Bor X
 lend x = record { ref_ptr = (0, 0); now = x }
 
+-- a reference through which it may be changed
+abbrev lend_mut : {X : Type 0} → X → MutBor X
+lend_mut x = record { ref_ptr = (0, 0); ghost_name = 0; now = x }
+
 pub open-call : (on : Bool) → Opens on (opened on)
 open-call on = record { κs = tt; input = (on, tt); exit = (on, tt); correction = refl; allowed = refl }
 
@@ -73,8 +78,8 @@ pub send-call : (d : Desk) (old : List ℕ) → Sends d old (sent d (length old)
 send-call d old =
     record {
       κs = ([], tt);
-      input = (d, (lend old, tt));
-      exit = (d, (lend (send_leaves d old), tt));
+      input = (d, (lend_mut old, tt));
+      exit = (d, (lend_mut (send_leaves d old), tt));
       own = refl;
       lent = refl;
       leaves = refl;
@@ -94,8 +99,8 @@ pub look-into-call : (f : Follower) (old : List ℕ) → LooksInto f old (checke
 look-into-call f old =
     record {
       κs = ([], tt);
-      input = (f, (lend old, tt));
-      exit = (f, (lend (shown_leaves f old), tt));
+      input = (f, (lend_mut old, tt));
+      exit = (f, (lend_mut (shown_leaves f old), tt));
       own = refl;
       lent = refl;
       leaves = refl;
@@ -115,8 +120,8 @@ pub write-call : (on : Bool) (ci : ℕ) (bytes old : List ℕ) → Bytes bytes �
 write-call on ci bytes old b =
     record {
       κs = ([], ([], tt));
-      input = (on, (ci, (lend bytes, (lend old, tt))));
-      exit = (on, (ci, (lend bytes, (lend (write_leaves on ci bytes old), tt))));
+      input = (on, (ci, (lend bytes, (lend_mut old, tt))));
+      exit = (on, (ci, (lend bytes, (lend_mut (write_leaves on ci bytes old), tt))));
       correction = refl;
       index = refl;
       lent = refl;
@@ -133,8 +138,8 @@ pub read-into-call : (words old : List ℕ) → ReadsInto words old (reading_int
 read-into-call words old =
     record {
       κs = ([], ([], tt));
-      input = (lend words, (lend old, tt));
-      exit = (lend words, (lend (read_leaves words old), tt));
+      input = (lend words, (lend_mut old, tt));
+      exit = (lend words, (lend_mut (read_leaves words old), tt));
       lent = refl;
       room = refl;
       leaves = refl;
@@ -145,8 +150,8 @@ pub repair-call : (words old : List ℕ) → Repairs words old (repaired_of word
 repair-call words old =
     record {
       κs = ([], ([], tt));
-      input = (lend words, (lend old, tt));
-      exit = (lend words, (lend (repair_leaves words old), tt));
+      input = (lend words, (lend_mut old, tt));
+      exit = (lend words, (lend_mut (repair_leaves words old), tt));
       lent = refl;
       room = refl;
       leaves = refl;
