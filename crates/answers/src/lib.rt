@@ -14,7 +14,7 @@ const DONE: u8 = 0;
 
 // Done, 0 and 0; or the number and the place of the refusal.
 #[repr(C)]
-#[derive(Drop)]
+#[derive(Clone, Copy)]
 pub struct AyAnswer {
     pub number: u8,
     pub place: u8,
@@ -22,7 +22,7 @@ pub struct AyAnswer {
 
 // The answer, and which bits of a word are wrong: 0 none, 1 b8, 2 b9, 3 both.
 #[repr(C)]
-#[derive(Drop)]
+#[derive(Clone, Copy)]
 pub struct AyWord {
     pub number: u8,
     pub place: u8,
@@ -31,7 +31,7 @@ pub struct AyWord {
 
 // The answer, and whether the bytes are a codeword, or false.
 #[repr(C)]
-#[derive(Drop)]
+#[derive(Clone, Copy)]
 pub struct AyVerdict {
     pub number: u8,
     pub place: u8,
@@ -40,7 +40,7 @@ pub struct AyVerdict {
 
 // The answer, with 7 the wrong bits of the word at the place, and the packet that was accepted, or zeros.
 #[repr(C)]
-#[derive(Drop)]
+#[derive(Clone, Copy)]
 pub struct AyPacket {
     pub number: u8,
     pub place: u8,
@@ -52,7 +52,7 @@ pub struct AyPacket {
 
 // The answer, and how many words were fixed, or 0.
 #[repr(C)]
-#[derive(Drop)]
+#[derive(Clone, Copy)]
 pub struct AyRepaired {
     pub number: u8,
     pub place: u8,
@@ -61,7 +61,7 @@ pub struct AyRepaired {
 
 // The answer, and what stands in a field before its words, or zeros.
 #[repr(C)]
-#[derive(Drop)]
+#[derive(Clone, Copy)]
 pub struct AyField {
     pub number: u8,
     pub place: u8,
@@ -72,7 +72,7 @@ pub struct AyField {
 
 // The desk handed back, and the answer.
 #[repr(C)]
-#[derive(Drop)]
+#[derive(Clone, Copy)]
 pub struct AyTurn {
     pub desk: Desk,
     pub number: u8,
@@ -81,7 +81,7 @@ pub struct AyTurn {
 
 // The follower handed back, the answer, with 7 the wrong bits of the word at the place, and what the packet brought, or zeros.
 #[repr(C)]
-#[derive(Drop)]
+#[derive(Clone, Copy)]
 pub struct AyFollowed {
     pub follower: Follower,
     pub number: u8,

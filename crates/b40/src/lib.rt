@@ -40,7 +40,7 @@ fn pack_refusal(line: u16, offset: u16, words: &[u16], room: usize) -> Checked
 }
 
 // What stands in a field before its words.
-#[derive(Drop)]
+#[derive(Clone, Copy)]
 pub struct Head {
     pub yc: bool,
     pub line: u16,
@@ -48,7 +48,7 @@ pub struct Head {
 }
 
 // What unpacking answers: the head, or why there is none.
-#[derive(Drop)]
+#[derive(Clone, Copy)]
 pub enum Unpacked {
     Done(Head),
     Refused(refusal::Refusal),

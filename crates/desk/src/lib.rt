@@ -10,7 +10,7 @@ use steps::Step;
 
 // The record's bytes, the index CI of the next packet, and the steps, the oldest first, with their count.
 #[repr(C)]
-#[derive(Drop)]
+#[derive(Clone, Copy)]
 pub struct Desk {
     pub bytes: [u8; 248],
     pub ci: u8,
@@ -19,7 +19,7 @@ pub struct Desk {
 }
 
 // What a call answers: the desk handed back, and the check.
-#[derive(Drop)]
+#[derive(Clone, Copy)]
 pub struct Turn {
     pub desk: Desk,
     pub checked: Checked,

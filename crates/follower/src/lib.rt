@@ -53,7 +53,7 @@ pub struct Follower {
 }
 
 // The follower handed back, and what it heard.
-#[derive(Drop)]
+#[derive(Clone, Copy)]
 pub struct Followed {
     pub follower: Follower,
     pub heard: Heard,

@@ -12,7 +12,7 @@ ghost use Rattle.items.specs.Item.{item_refusal, place_in, place_of};
 use refusal::{Checked, Reason};
 
 // Where an item stands: its first byte, counted from 1, and how many it has; 0 and 0 beside a refusal.
-#[derive(Drop)]
+#[derive(Clone, Copy)]
 pub struct ItemPlace {
     pub checked: Checked,
     pub first: usize,

@@ -3,7 +3,7 @@ ghost use Rattle.std.specs.Prelude.{◌≡◌, ◌<◌, ◌≤◌};
 ghost use Rattle.lines.specs.Text.{digit, leading, decimal, hex_byte, hex_bytes, blank, pushed, written};
 
 // The places, of which the first `length` are written; the others are zero.
-#[derive(Drop)]
+#[derive(Clone, Copy)]
 pub struct Page {
     pub bytes: [u8; 704],
     pub length: usize,

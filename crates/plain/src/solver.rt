@@ -10,7 +10,7 @@ ghost use Rattle.rs.specs.Polynomial.{value_at};
 ghost use Rattle.plain.specs.Plain.{Sums, element, terms_at, Solves, Unexplained, Has, Judges, errors_of, Stands, Settles};
 
 // Errors at up to three places, and whether they have all six sums; a value of 0 is no error.
-#[derive(Drop)]
+#[derive(Clone, Copy)]
 pub(crate) struct Errors {
     pub(crate) explained: bool,
     pub(crate) i: usize,
@@ -22,14 +22,14 @@ pub(crate) struct Errors {
 }
 
 // The values at two places.
-#[derive(Drop)]
+#[derive(Clone, Copy)]
 struct Pair {
     b: u8,
     c: u8,
 }
 
 // The values at three places.
-#[derive(Drop)]
+#[derive(Clone, Copy)]
 struct Triple {
     a: u8,
     b: u8,

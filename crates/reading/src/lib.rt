@@ -15,7 +15,7 @@ pub struct Packet {
 }
 
 // What reading answers: the packet, or why there is none.
-#[derive(Drop)]
+#[derive(Clone, Copy)]
 pub enum Reading {
     Accepted(Packet),
     Refused(refusal::Refusal),

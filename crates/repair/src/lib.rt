@@ -7,7 +7,7 @@ ghost use Rattle.repair.specs.Repair.{repaired_of, counted_of, repair_leaves};
 use refusal::{Checked, Reason};
 
 // What repair answers: how many words' ten bits changed, 0 to 254, or why there is no answer.
-#[derive(Drop)]
+#[derive(Clone, Copy)]
 pub enum Repaired {
     Fixed(u8),
     Refused(refusal::Refusal),

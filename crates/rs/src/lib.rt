@@ -36,7 +36,7 @@ pub fn parity(bytes: &[u8]) -> [u8; 6]
 }
 
 // What a division answers: six bytes, zeros where it is refused.
-#[derive(Drop)]
+#[derive(Clone, Copy)]
 pub struct Divided {
     pub checked: Checked,
     pub left: [u8; 6],
@@ -59,7 +59,7 @@ pub fn remainder(block: &[u8]) -> Divided
 }
 
 // What the check answers: yes, the block is a codeword; no, it is none; or it is refused.
-#[derive(Drop)]
+#[derive(Clone, Copy)]
 pub enum Verdict {
     Yes,
     No,

@@ -8,14 +8,14 @@ ghost use Rattle.search.specs.SearchMarked.{flag_of, marks_by, MarksOf, OneMore,
 use crate::{solver, values};
 
 // How many places are marked, and by their exponents which, where they are at most six.
-#[derive(Drop)]
+#[derive(Clone, Copy)]
 pub(crate) struct Marks {
     pub(crate) count: usize,
     pub(crate) places: [usize; 6],
 }
 
 // Six places with their values, and whether these have the six sums.
-#[derive(Drop)]
+#[derive(Clone, Copy)]
 pub(crate) struct Found {
     pub(crate) found: bool,
     pub(crate) places: [usize; 6],

@@ -26,7 +26,7 @@ struct Locator {
 }
 
 // What the search found, if it found it.
-#[derive(Drop)]
+#[derive(Clone, Copy)]
 pub(crate) struct Outcome {
     pub(crate) found: bool,
     pub(crate) errors: Errors,

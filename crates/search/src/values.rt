@@ -8,7 +8,7 @@ ghost use Rattle.search.specs.Values.{AllPlaced, KillsAll, unscaled_of, sum_of, 
 use crate::solver;
 
 // What killing places one after the other leaves: the first sum before each of them was killed, and the sums at the end.
-#[derive(Drop)]
+#[derive(Clone, Copy)]
 pub(crate) struct Killed {
     pub(crate) firsts: [u8; 6],
     pub(crate) left: [u8; 6],

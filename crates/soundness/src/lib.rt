@@ -10,7 +10,7 @@ ghost use Rattle.soundness.specs.Check.{soundness_by, soundness_of, unsound_at, 
 use refusal::{Checked, Reason, Wrong};
 
 // What the word check answers: the word is sound, or this is wrong with it, or it is no word of ten bits.
-#[derive(Drop)]
+#[derive(Clone, Copy)]
 pub enum Soundness {
     Sound,
     Unsound(Wrong),

@@ -47,7 +47,7 @@ pub fn count_on(count: u8) -> u8
 }
 
 // What keeping an item's bytes answers: a step, of zeros beside a refusal.
-#[derive(Drop)]
+#[derive(Clone, Copy)]
 pub struct Kept {
     pub checked: Checked,
     pub step: Step,

@@ -1,19 +1,20 @@
 // A day of a desk and a follower over a damaged line: edits, undos, sends, drops, repeats of a packet and of a frame of two, and in each delivery as
 // many bad words as the line may have.
+use crate::alike::same;
 use desk::Desk;
 use follower::Follower;
 use std::num::wrapping_add_u32;
 
 // A packet that was sent: its words, and the record in them.
-#[derive(Drop)]
-struct Sent {
+#[derive(Clone, Copy)]
+pub(crate) struct Sent {
     pub words: [u16; 262],
     pub bytes: [u8; 248],
 }
 
 // What is counted, the true numbers: of the frames that were repeated too, and of the deliveries at which desk and follower agreed. Then what the line
 // stands at, with the packet that was sent last and whether it came; and desk and follower.
-#[derive(Drop)]
+#[derive(Clone, Copy)]
 pub(crate) struct Day {
     pub sent: u32,
     pub delivered: u32,
@@ -152,7 +153,7 @@ fn turned(desk: Desk, chance: u64) -> Desk {
 // One if the follower shows this record, with these true counts.
 pub(crate) fn agrees(bytes: [u8; 248], follower: Follower, missed: u32, repeated: u32) -> u32 {
     let shown = follower.shown();
-    if check::same(&bytes, &shown)
+    if same(&bytes, &shown)
         & (follower.missed == missed)
         & (follower.repeated == repeated)
         & (follower.refused == 0)

@@ -1,5 +1,6 @@
 // Cases that are run: three changed words, six that confess, correction off at opening and at a follower, the end of the history, and the private
 // bytes edited and undone.
+use crate::alike::same;
 use crate::day;
 use desk::Desk;
 use follower::Follower;
@@ -40,7 +41,7 @@ fn fixed(words: &[u16]) -> u64 {
 }
 
 // How many undos are done after some edits, and the number of the refusal that ends them.
-#[derive(Drop)]
+#[derive(Clone, Copy)]
 pub(crate) struct Undone {
     pub count: u64,
     pub number: u64,
@@ -136,5 +137,5 @@ pub(crate) fn private_undone() -> u64 {
 fn same_bytes(a: Desk, b: Desk) -> bool {
     let x = a.bytes;
     let y = b.bytes;
-    check::same(&x, &y)
+    same(&x, &y)
 }

@@ -1,5 +1,6 @@
 // Packets as a foreign encoder makes them, with counters of its own where it likes: what the panel says of them, and what a desk made by hand that
 // holds such counters sends.
+use crate::alike::same;
 use crate::day;
 use desk::Desk;
 use follower::Follower;
@@ -15,7 +16,7 @@ fn put(bytes: &mut [u8], at: usize, byte: u8) {
 fn close(block: &mut [u8]) {
     if block.len() == 254 {
         let parity = rs::parity(&block[0..248]);
-        bytes::copy(&parity, &mut block[248..254]);
+        block[248..254].copy_from_slice(&parity);
     }
 }
 
@@ -50,7 +51,7 @@ fn with_counters(first: u8) -> [u16; 262] {
 }
 
 // The number and the place of a refusal; 0 and 0 where there is none.
-#[derive(Drop)]
+#[derive(Clone, Copy)]
 pub(crate) struct Told {
     pub number: u64,
     pub place: u64,
@@ -73,7 +74,7 @@ pub(crate) fn read_with(first: u8) -> Told {
 fn refused(desk: Desk, follower: Follower) -> u64 {
     let bytes = desk.bytes;
     let shown = follower.shown();
-    if check::same(&bytes, &shown) {
+    if same(&bytes, &shown) {
         return follower.refused as u64;
     }
     255

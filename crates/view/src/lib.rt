@@ -11,21 +11,21 @@ ghost use Rattle.view.specs.Read.{record_read_of};
 use refusal::Checked;
 
 // A byte of the time: the number that it stands for.
-#[derive(Drop)]
+#[derive(Clone, Copy)]
 pub enum TimeWord {
     Sent(u8),
     Unsent,
 }
 
 // The two last bytes of the time together: 0 to 999.
-#[derive(Drop)]
+#[derive(Clone, Copy)]
 pub enum Milliseconds {
     Sent(u16),
     Unsent,
 }
 
 // Weekday 0 is Sunday.
-#[derive(Drop)]
+#[derive(Clone, Copy)]
 pub struct Time {
     pub year: TimeWord,
     pub month: TimeWord,
@@ -39,7 +39,7 @@ pub struct Time {
 
 // W0 less 0x80 is the format, 1 to 5. What is read for one format alone is false for the others: transport_progressive is read for 5,
 // samples_960 for 1 and second_link for 2.
-#[derive(Drop)]
+#[derive(Clone, Copy)]
 pub struct Picture {
     pub format: u8,
     pub transport_progressive: bool,
@@ -53,39 +53,39 @@ pub struct Picture {
     pub ten_bits: bool,
 }
 
-#[derive(Drop)]
+#[derive(Clone, Copy)]
 pub enum PictureMode {
     Unused,
     Used(Picture),
 }
 
-#[derive(Drop)]
+#[derive(Clone, Copy)]
 pub struct Sound {
     pub mode: u8,
     pub downmix: u8,
 }
 
-#[derive(Drop)]
+#[derive(Clone, Copy)]
 pub enum SoundMode {
     Unused,
     Used(Sound),
 }
 
 // How many fields of the picture are left: 0 to 254.
-#[derive(Drop)]
+#[derive(Clone, Copy)]
 pub enum Countdown {
     Running(u8),
     Stopped,
 }
 
 // 0 to 254.
-#[derive(Drop)]
+#[derive(Clone, Copy)]
 pub enum Counter {
     At(u8),
     Unused,
 }
 
-#[derive(Drop)]
+#[derive(Clone, Copy)]
 pub struct Counters {
     pub q1: Counter,
     pub q2: Counter,
@@ -93,7 +93,7 @@ pub struct Counters {
     pub q4: Counter,
 }
 
-#[derive(Drop)]
+#[derive(Clone, Copy)]
 pub struct Countdowns {
     pub q1: Countdown,
     pub q2: Countdown,
@@ -102,7 +102,7 @@ pub struct Countdowns {
 }
 
 // All that a record says outside the private area. Of the triggers Q1 is bit 0 and Q32 is bit 31; of the status S1 is bit 0.
-#[derive(Drop)]
+#[derive(Clone, Copy)]
 pub struct RecordView {
     pub station: [u8; 8],
     pub time: Time,
@@ -310,7 +310,7 @@ fn view_of(bytes: &[u8]) -> RecordView
 }
 
 // A record read from bytes: the check, and beside it the view; where the check refuses, the view is that of zero bytes.
-#[derive(Drop)]
+#[derive(Clone, Copy)]
 pub struct RecordRead {
     pub checked: Checked,
     pub view: RecordView,

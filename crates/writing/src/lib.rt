@@ -11,7 +11,7 @@ ghost use Rattle.writing.specs.Written.{written_of, write_leaves, layout_of, lay
 use refusal::{Checked, Reason};
 
 // What writing answers.
-#[derive(Drop)]
+#[derive(Clone, Copy)]
 pub enum Written {
     Done,
     Refused(refusal::Refusal),
