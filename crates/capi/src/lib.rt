@@ -1,4 +1,5 @@
-// The calls for C: numbers, lent slices and plain structs, each under its plain name. What they say stands in include/aynirukh.h.
+// The calls for C: numbers, lent slices and plain structs, each under its plain name; `capi_c` exports them. What they say stands in
+// include/aynirukh.h.
 #![tactic(auto)]
 
 ghost use Rattle.std.specs.Prelude.{◌≡◌, length};
@@ -23,16 +24,14 @@ use follower::Follower;
 // ---- words
 
 // The sound word that carries a byte.
-#[unsafe(no_mangle)]
-pub extern "C" fn ay_word_of(byte: u8) -> u16
+pub fn ay_word_of(byte: u8) -> u16
     ensures { result ≡ word_of byte }
 {
     anc::word_of(byte)
 }
 
 // The word check: which of b8 and b9 are wrong.
-#[unsafe(no_mangle)]
-pub extern "C" fn ay_check_word(word: u16) -> AyWord
+pub fn ay_check_word(word: u16) -> AyWord
     ensures { result ≡ word_from (soundness_of word) }
 {
     let soundness = soundness::check_word(word);
@@ -40,8 +39,7 @@ pub extern "C" fn ay_check_word(word: u16) -> AyWord
 }
 
 // The checksum word of a run of words.
-#[unsafe(no_mangle)]
-pub extern "C" fn ay_checksum(words: &[u16]) -> u16
+pub fn ay_checksum(words: &[u16]) -> u16
     ensures { result ≡ checksum_of words.now }
 {
     anc::checksum(words)
@@ -50,8 +48,7 @@ pub extern "C" fn ay_checksum(words: &[u16]) -> u16
 // ---- packet and record
 
 // Writes the packet of the bytes' record. A refusal leaves `out` as it was.
-#[unsafe(no_mangle)]
-pub extern "C" fn ay_write_packet(
+pub fn ay_write_packet(
     correction: bool,
     ci: u8,
     bytes: &[u8],
@@ -64,8 +61,7 @@ pub extern "C" fn ay_write_packet(
 }
 
 // Reads a packet.
-#[unsafe(no_mangle)]
-pub extern "C" fn ay_read_packet(words: &[u16]) -> AyPacket
+pub fn ay_read_packet(words: &[u16]) -> AyPacket
     ensures { result ≡ packet_from (reading_of words.now) }
 {
     let reading = reading::read_packet(words);
@@ -73,8 +69,7 @@ pub extern "C" fn ay_read_packet(words: &[u16]) -> AyPacket
 }
 
 // Reads a packet, and leaves its record in `out`. A refusal leaves `out` as it was.
-#[unsafe(no_mangle)]
-pub extern "C" fn ay_read_packet_into(words: &[u16], out: &mut [u8]) -> AyPacket
+pub fn ay_read_packet_into(words: &[u16], out: &mut [u8]) -> AyPacket
     ensures { (result ≡ packet_from (reading_into_of words.now (length out.old))) × (out.new ≡ read_leaves words.now out.old) }
 {
     let reading = reading::read_packet_into(words, out);
@@ -82,8 +77,7 @@ pub extern "C" fn ay_read_packet_into(words: &[u16], out: &mut [u8]) -> AyPacket
 }
 
 // Rewrites the 254 protected words. A refusal leaves `out` as it was.
-#[unsafe(no_mangle)]
-pub extern "C" fn ay_repair(words: &[u16], out: &mut [u16]) -> AyRepaired
+pub fn ay_repair(words: &[u16], out: &mut [u16]) -> AyRepaired
     ensures { (result ≡ repaired_from (repaired_of words.now (length out.old))) × (out.new ≡ repair_leaves words.now out.old) }
 {
     let repaired = repair::repair(words, out);
@@ -91,8 +85,7 @@ pub extern "C" fn ay_repair(words: &[u16], out: &mut [u16]) -> AyRepaired
 }
 
 // Is a block of 254 bytes a codeword?
-#[unsafe(no_mangle)]
-pub extern "C" fn ay_check_codeword(block: &[u8]) -> AyVerdict
+pub fn ay_check_codeword(block: &[u8]) -> AyVerdict
     ensures { result ≡ verdict_from (verdict_of block.now) }
 {
     let verdict = rs::check_codeword(block);
@@ -100,8 +93,7 @@ pub extern "C" fn ay_check_codeword(block: &[u8]) -> AyVerdict
 }
 
 // What the bytes of a record are refused for.
-#[unsafe(no_mangle)]
-pub extern "C" fn ay_record_refusal(bytes: &[u8]) -> AyAnswer
+pub fn ay_record_refusal(bytes: &[u8]) -> AyAnswer
     ensures { result ≡ answer_by (record_refusal bytes.now) }
 {
     let checked = record::record_refusal(bytes);
@@ -111,8 +103,7 @@ pub extern "C" fn ay_record_refusal(bytes: &[u8]) -> AyAnswer
 // ---- field
 
 // Packs a packet's words into a field. A refusal leaves `out` as it was.
-#[unsafe(no_mangle)]
-pub extern "C" fn ay_pack(
+pub fn ay_pack(
     yc: bool,
     line: u16,
     offset: u16,
@@ -126,8 +117,7 @@ pub extern "C" fn ay_pack(
 }
 
 // Unpacks a field into the words of its packet. A refusal leaves `out` as it was.
-#[unsafe(no_mangle)]
-pub extern "C" fn ay_unpack(field: &[u8], out: &mut [u16]) -> AyField
+pub fn ay_unpack(field: &[u8], out: &mut [u16]) -> AyField
     ensures { (result ≡ field_from (unpacked_of field.now (length out.old))) × (out.new ≡ unpack_leaves field.now out.old) }
 {
     let unpacked = b40::unpack(field, out);
@@ -137,8 +127,7 @@ pub extern "C" fn ay_unpack(field: &[u8], out: &mut [u16]) -> AyField
 // ---- desk
 
 // A desk with the opening record, CI 0 and no history; with correction on only.
-#[unsafe(no_mangle)]
-pub extern "C" fn ay_desk_open(correction: bool) -> AyTurn
+pub fn ay_desk_open(correction: bool) -> AyTurn
     ensures { result ≡ turn_from (opened correction) }
 {
     let turn = Desk::open(correction);
@@ -146,8 +135,7 @@ pub extern "C" fn ay_desk_open(correction: bool) -> AyTurn
 }
 
 // Checks the bytes given for an item and stores them, one step more.
-#[unsafe(no_mangle)]
-pub extern "C" fn ay_desk_edit(desk: Desk, item: u8, bytes: &[u8]) -> AyTurn
+pub fn ay_desk_edit(desk: Desk, item: u8, bytes: &[u8]) -> AyTurn
     ensures { result ≡ turn_from (edited desk item bytes.now) }
 {
     let turn = desk.edit(item, bytes);
@@ -155,8 +143,7 @@ pub extern "C" fn ay_desk_edit(desk: Desk, item: u8, bytes: &[u8]) -> AyTurn
 }
 
 // Puts back the bytes before the latest step.
-#[unsafe(no_mangle)]
-pub extern "C" fn ay_desk_undo(desk: Desk) -> AyTurn
+pub fn ay_desk_undo(desk: Desk) -> AyTurn
     ensures { result ≡ turn_from (undone desk) }
 {
     let turn = desk.undo();
@@ -164,8 +151,7 @@ pub extern "C" fn ay_desk_undo(desk: Desk) -> AyTurn
 }
 
 // Writes the packet of the desk's bytes as they stand, and counts the index on. A refusal leaves `out` as it was.
-#[unsafe(no_mangle)]
-pub extern "C" fn ay_desk_send(desk: Desk, out: &mut [u16]) -> AyTurn
+pub fn ay_desk_send(desk: Desk, out: &mut [u16]) -> AyTurn
     ensures { (result ≡ turn_from (sent desk (length out.old))) × (out.new ≡ send_leaves desk out.old) }
 {
     let turn = desk.send(out);
@@ -175,16 +161,14 @@ pub extern "C" fn ay_desk_send(desk: Desk, out: &mut [u16]) -> AyTurn
 // ---- follower
 
 // Nothing has arrived.
-#[unsafe(no_mangle)]
-pub extern "C" fn ay_follower_open() -> Follower
+pub fn ay_follower_open() -> Follower
     ensures { result ≡ nothing_arrived }
 {
     Follower::open()
 }
 
 // Takes a packet in.
-#[unsafe(no_mangle)]
-pub extern "C" fn ay_follower_follow(follower: Follower, words: &[u16]) -> AyFollowed
+pub fn ay_follower_follow(follower: Follower, words: &[u16]) -> AyFollowed
     ensures { result ≡ followed_from (followed follower words.now) }
 {
     let heard = follower.follow(words);
@@ -192,8 +176,7 @@ pub extern "C" fn ay_follower_follow(follower: Follower, words: &[u16]) -> AyFol
 }
 
 // Leaves in `out` the record that the follower shows. A refusal leaves `out` as it was.
-#[unsafe(no_mangle)]
-pub extern "C" fn ay_follower_shown(follower: Follower, out: &mut [u8]) -> AyAnswer
+pub fn ay_follower_shown(follower: Follower, out: &mut [u8]) -> AyAnswer
     ensures { (result ≡ answer_by (shown_refusal (length out.old))) × (out.new ≡ shown_leaves follower out.old) }
 {
     let checked = follower.shown_into(out);
