@@ -34,9 +34,11 @@ need() {
 # the archive that was given, or that of every call, proved and built
 archive() {
     [ -z "$library" ] || return 0
-    rt staticlib capi > "$work/archive.log" 2>&1 || {
+    (cd crates/capi_c && rt lib) > "$work/archive.log" 2>&1 || {
         tail -n 5 "$work/archive.log" >&2
         exit 1
     }
+    mkdir -p target/staticlib
+    cp crates/capi_c/out/libcapi_c.a target/staticlib/libcapi.a
     library=target/staticlib/libcapi.a
 }
