@@ -73,14 +73,15 @@ no_row n = (to, ⊎_elim (λ e. rw e row_zero) (row-none n))
 whose : ℕ → Bool
 whose k = eqb (holders (suc k) items) (cond (reserved_byte (suc k)) 0 1)
 
-all-whose : T (below whose 248)
-unfolding whose holders items
-all-whose = tt
+-- as the test of all 248 says it of each
+by-test : T (below whose 248) → (n : ℕ) → 1 ≤ n → n ≤ 248 → holders n items ≡ cond (reserved_byte n) 0 1
+unfolding whose
+by-test t zero p h = absurd (omega arith)
+by-test t (suc k) p h = eqb→eq _ _ (below_at whose 248 t k (omega arith))
 
 pub one-holder : (n : ℕ) → 1 ≤ n → n ≤ 248 → holders n items ≡ cond (reserved_byte n) 0 1
-unfolding whose
-one-holder zero p h = absurd (omega arith)
-one-holder (suc k) p h = eqb→eq _ _ (below_at whose 248 all-whose k (omega arith))
+unfolding whose holders items
+one-holder = by-test tt
 
 -- ---- a row without a rule
 
