@@ -60,7 +60,6 @@ pub fn has_flag(words: &[u16]) -> bool
 }
 
 // Is no word over 1,023? It goes by the largest, with no early return, so that the words can be taken many at a time.
-#[tactic(auto, unfolding(crate::specs::Words::narrow))]
 pub fn narrow(words: &[u16]) -> bool
     ensures { result ≡ narrow words.now }
 {

@@ -73,7 +73,6 @@ pub(crate) fn first(field: &[u8]) -> u32
 }
 
 // Ten bits of a field, from bit 8k + from on: they lie in byte k and the next.
-#[tactic(auto, unfolding(crate::specs::Field::part, crate::specs::Field::bits_of))]
 fn word(field: &[u8], k: usize, from: usize) -> u16
     requires { (k + 1 < length field.now) × (from ≤ 6) }
     ensures { result ≡ part field.now (8 * k + from) 10 }
@@ -82,7 +81,6 @@ fn word(field: &[u8], k: usize, from: usize) -> u16
 }
 
 // Fills 262 words with the packet in a field. The flag takes the place of what stands before the words.
-#[tactic(auto, unfolding(crate::specs::Field::part))]
 pub(crate) fn write_words(field: &[u8], out: &mut [u16])
     requires { (length field.now ≡ 328) × (length out.old ≡ 262) }
     ensures { out.new ≡ words_of field.now }

@@ -27,7 +27,6 @@ pub fn pack(yc: bool, line: u16, offset: u16, words: &[u16], out: &mut [u8]) -> 
 }
 
 // What packing is refused for, with room for so many bytes.
-#[tactic(auto, unfolding(crate::specs::Packing::pack_refusal))]
 fn pack_refusal(line: u16, offset: u16, words: &[u16], room: usize) -> Checked
     ensures { result ≡ checked_of (pack_refusal line offset words.now room) }
 {

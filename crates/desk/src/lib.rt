@@ -88,7 +88,6 @@ impl Desk {
     }
 
     // Puts back the bytes before the latest step, and takes the step away. CI stays.
-    #[tactic(auto, unfolding(crate::specs::Desk::undone))]
     pub fn undo(self) -> Turn
         ensures { result ≡ undone self }
     {

@@ -129,7 +129,6 @@ impl Follower {
     }
 
     // Takes a packet in. A refusal changes the count of refusals alone.
-    #[tactic(auto, unfolding(crate::specs::Follower::refuses))]
     pub fn follow(self, words: &[u16]) -> Followed
         ensures { result ≡ followed self words.now }
     {

@@ -12,7 +12,6 @@ ghost use Rattle.gf256.specs.Tables.{PowerTable, LogTable};
 ghost use Rattle.gf256.specs.Lent.{Wheel, log_in, product_in, quotient_in};
 
 // The powers of 2 from 0 to 254.
-#[tactic(auto, unfolding(crate::proofs::Laws::Double::doublings, crate::specs::Field::double))]
 pub fn powers() -> [u8; 255]
     ensures { PowerTable result }
 {
@@ -20,7 +19,6 @@ pub fn powers() -> [u8; 255]
 }
 
 // The power of 2 that each byte but 0 is.
-#[tactic(auto, unfolding(crate::proofs::Laws::Double::doublings, crate::specs::Field::double))]
 pub fn logs() -> [u8; 256]
     ensures { LogTable result }
 {

@@ -36,7 +36,6 @@ fn no_item() -> ItemPlace
 }
 
 // The place of the item that has the number. Where there is no such item, that is refused.
-#[tactic(auto, unfolding(crate::specs::Item::place_of))]
 pub fn item_place(number: u8) -> ItemPlace
     ensures { result ≡ place_of number }
 {

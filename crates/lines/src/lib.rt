@@ -30,7 +30,6 @@ fn write_three(page: Page, word: &[u8], a: u16, b: u16, c: u16) -> Page
 }
 
 // The page of a refusal.
-#[tactic(auto, unfolding(crate::specs::Shown::refused_word))]
 fn refused(why: refusal::Refusal) -> Page
     ensures { result ≡ written blank (refused_line why) }
 {

@@ -106,7 +106,6 @@ fn tail_refusal(words: &[u16], correction: bool, bytes: &[u8]) -> Checked
 }
 
 // Fills `bytes` with those of the protected words as they are read, and says what the words are refused for behind the header.
-#[tactic(auto, unfolding(crate::specs::Reading::correction_of, crate::specs::Reading::protected_of))]
 fn check_body(words: &[u16], bytes: &mut [u8]) -> Checked
     requires { (length words.now ≡ 262) × (length bytes.old ≡ 254) }
     ensures { (result ≡ checked_of (body_refusal words.now)) × (bytes.new ≡ guard_bytes (correction_of words.now) (protected_of words.now)) }
@@ -145,7 +144,6 @@ fn fixed(words: &[u16], bytes: &[u8]) -> u8
 }
 
 // What is told of accepted words whose bytes are read.
-#[tactic(auto, unfolding(crate::specs::Reading::correction_of, crate::specs::Reading::protected_of))]
 pub(crate) fn packet(words: &[u16], bytes: &[u8]) -> Packet
     requires { (length words.now ≡ 262) × (length bytes.now ≡ 254) }
     ensures { result ≡ packet_by words.now bytes.now }

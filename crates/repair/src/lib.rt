@@ -16,7 +16,6 @@ pub enum Repaired {
 // Rewrites the 254 protected words as the sound words of a codeword. A word that is not sound marks its byte: with f marks, and e for the number of
 // the other bytes that differ from it, the codeword has 2e + f at most 6; where there is none, it is the one within three bytes of what the words
 // carry. A refusal leaves `out` as it was.
-#[tactic(auto, unfolding(crate::specs::Protected::repaired, crate::specs::Protected::rewritten, crate::specs::Protected::fixed_of))]
 pub fn repair(words: &[u16], out: &mut [u16]) -> Repaired
     ensures { (result ≡ repaired_of words.now (length out.old)) × (out.new ≡ repair_leaves words.now out.old) }
 {

@@ -63,7 +63,6 @@ fn doubled(g: [u8; 6]) -> [u8; 6]
 
 // A polynomial times x + 2^j, which gives it the root 2^j: itself a power higher, plus 2^j times itself. The six low coefficients of the
 // product stay.
-#[tactic(auto, unfolding(gf256::specs::Field::pow))]
 pub(crate) fn with_root(p: [u8; 6], j: usize) -> [u8; 6]
     ensures { result ≡ drop 1 (p ⊠ (1 ∷ pow 2 j ∷ [])) }
 {

@@ -14,7 +14,6 @@ use refusal::{Checked, Reason};
 // The coefficients of the divisor G, from that of x^5 down; that of x^6 is 1. They are worked out from the roots of G, the powers 0 to 5
 // of 2: the product starts as 1 and is multiplied by x + 2^j for each j. After two turns it is (x + 1)(x + 2) = x^2 + 3x + 2; in the
 // sixth the 1 of x^6 falls off.
-#[tactic(auto, unfolding(crate::specs::Codeword::divisor_bytes, crate::specs::Polynomial::scale, gf256::specs::Field::pow, gf256::specs::Field::by_bits, gf256::specs::Field::double))]
 pub fn divisor() -> [u8; 6]
     ensures { result ≡ divisor_bytes }
 {

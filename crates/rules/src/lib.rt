@@ -36,7 +36,6 @@ fn station_byte(b: u8) -> bool
 }
 
 // May each byte stand in a station code?
-#[tactic(auto, unfolding(crate::specs::Rules::station_rule))]
 pub fn station(bytes: &[u8]) -> bool
     ensures { result ≡ station_rule bytes.now }
 {

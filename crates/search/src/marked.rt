@@ -23,7 +23,6 @@ pub(crate) struct Found {
 }
 
 // 1 for a word that is not sound, which is one that is not the word of its own low byte.
-#[tactic(auto, unfolding(crate::specs::SearchMarked::flag_of))]
 fn flag(word: u16) -> u8
     ensures { result ≡ flag_of word }
 {

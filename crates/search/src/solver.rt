@@ -119,7 +119,6 @@ fn value(wheel: &[u8; 1021], logs: &[u8; 256], bytes: [u8; 6], x: u8) -> u8
 }
 
 // The six sums of six bytes.
-#[tactic(auto, unfolding(crate::specs::Search::sums_of, gf256::specs::Field::pow, gf256::specs::Field::by_bits, gf256::specs::Field::double))]
 pub(crate) fn sums(wheel: &[u8; 1021], logs: &[u8; 256], bytes: [u8; 6]) -> [u8; 6]
     requires { Tables wheel.now logs.now }
     ensures { result ≡ sums_of bytes }

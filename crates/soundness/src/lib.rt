@@ -74,7 +74,6 @@ fn all_sound(words: &[u16]) -> bool
 }
 
 // The first word that is not sound, by its number from 1 on, is the refusal.
-#[tactic(auto, unfolding(crate::specs::Check::unsound_from))]
 fn first_unsound(words: &[u16]) -> Checked
     requires { length words.now ≤ 255 }
     ensures { result ≡ checked_of (unsound_from 1 words.now) }

@@ -18,7 +18,6 @@ pub enum Written {
 }
 
 // Writes the packet of the bytes' record, with an index and with or without correction. A refusal leaves `out` as it was.
-#[tactic(auto, unfolding(crate::specs::Written::written_of, crate::specs::Written::write_leaves))]
 pub fn write_packet(correction: bool, ci: u8, bytes: &[u8], out: &mut [u16]) -> Written
     ensures { (result ≡ written_of ci bytes.now (length out.old)) × (out.new ≡ write_leaves correction ci bytes.now out.old) }
 {
@@ -35,7 +34,6 @@ pub fn write_packet(correction: bool, ci: u8, bytes: &[u8], out: &mut [u16]) -> 
 }
 
 // Writes the packet of the bytes as they stand, neither checked nor cleaned. A refusal leaves `out` as it was.
-#[tactic(auto, unfolding(crate::specs::Written::layout_of, crate::specs::Written::layout_leaves))]
 pub fn write_layout(correction: bool, ci: u8, bytes: &[u8], out: &mut [u16]) -> Written
     ensures { (result ≡ layout_of ci bytes.now (length out.old)) × (out.new ≡ layout_leaves correction ci bytes.now out.old) }
 {
