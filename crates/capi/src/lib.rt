@@ -48,12 +48,7 @@ pub fn ay_checksum(words: &[u16]) -> u16
 // ---- packet and record
 
 // Writes the packet of the bytes' record. A refusal leaves `out` as it was.
-pub fn ay_write_packet(
-    correction: bool,
-    ci: u8,
-    bytes: &[u8],
-    out: &mut [u16],
-) -> AyAnswer
+pub fn ay_write_packet(correction: bool, ci: u8, bytes: &[u8], out: &mut [u16]) -> AyAnswer
     ensures { (result ≡ answer_by (write_refusal ci bytes.now (length out.old))) × (out.new ≡ write_leaves correction ci bytes.now out.old) }
 {
     let written = writing::write_packet(correction, ci, bytes, out);
@@ -103,13 +98,7 @@ pub fn ay_record_refusal(bytes: &[u8]) -> AyAnswer
 // ---- field
 
 // Packs a packet's words into a field. A refusal leaves `out` as it was.
-pub fn ay_pack(
-    yc: bool,
-    line: u16,
-    offset: u16,
-    words: &[u16],
-    out: &mut [u8],
-) -> AyAnswer
+pub fn ay_pack(yc: bool, line: u16, offset: u16, words: &[u16], out: &mut [u8]) -> AyAnswer
     ensures { (result ≡ answer_by (pack_refusal line offset words.now (length out.old))) × (out.new ≡ pack_leaves yc line offset words.now out.old) }
 {
     let written = b40::pack(yc, line, offset, words, out);

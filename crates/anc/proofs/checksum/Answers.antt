@@ -1,8 +1,7 @@
 -- `anc::checksum` meets its contract. The loop's invariant: modulo 512 the sum is that of the words passed. The measure is what
 -- is left of the length.
 -- Assumes nothing.
-use Rattle.std.proofs.Common.{◌≡◌, ◌-◌, ◌%◌, ◌<◌, ◌≤◌, length, take, ap, ◌∙◌, arith, take_all, rules}
-use Rattle.anc.specs.Word.{with_b9, total, checksum_of}
+use Rattle.std.proofs.Common.{◌<◌, length, arith, rules}
 use Rattle.anc.proofs.Laws.Checksum.{total-more, wrap-more}
 use Rattle.anc.proofs.checksum.Goals as goal
 

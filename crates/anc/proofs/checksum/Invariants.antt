@@ -1,9 +1,8 @@
 -- `anc::checksum` meets its contract. The loop's invariant: modulo 512 the sum is that of the words passed. The measure is what
 -- is left of the length.
 -- Assumes nothing.
-use Rattle.std.proofs.Common.{◌≡◌, ◌-◌, ◌%◌, ◌<◌, ◌≤◌, length, take, ap, ◌∙◌, arith, take_all, rules}
-use Rattle.anc.specs.Word.{with_b9, total, checksum_of}
-use Rattle.anc.proofs.Laws.Checksum.{total-more, wrap-more}
+use Rattle.std.proofs.Common.{◌≡◌, ◌-◌, ◌%◌, ◌≤◌, length, take}
+use Rattle.anc.specs.Word.{total}
 use Rattle.anc.proofs.checksum.Given as goal
 
 abbrev pub invariant-loop-i : goal.invariant-loop-i

@@ -1,6 +1,6 @@
 -- `anc::has_flag` meets its contract: the three tests are those of the flag's entries.
 -- Assumes nothing.
-use Rattle.std.proofs.Common.{arith, rules}
+use Rattle.std.proofs.Common.{arith}
 use Rattle.anc.proofs.Laws.Words.{no_flag, flag-tests}
 use Rattle.anc.proofs.has_flag.Goals as goal
 

@@ -1,9 +1,9 @@
 -- `anc::narrow` meets its contract. The loop's invariant: of the words passed, the largest says whether each fits. The measure is what is
 -- left of the length.
 -- Assumes nothing.
-use Rattle.std.proofs.Common.{◌≡◌, ℕ, ◌-◌, Bool, ◌&&◌, leb, List, length, get_or, ap, ◌∙◌, arith, rules}
+use Rattle.std.proofs.Common.{◌≡◌, ℕ, ◌&&◌, List, get_or, ap, ◌∙◌, arith}
 use mathlib.Core.Bool.{and_comm}
-use Rattle.basics.proofs.Laws.Each.{Passing, passing-none, passing-more, passing-all}
+use Rattle.basics.proofs.Laws.Each.{passing-more, passing-all}
 use Rattle.anc.specs.Words.{narrow}
 use Rattle.anc.proofs.Laws.Words.{larger-fits}
 use Rattle.anc.proofs.narrow.Invariants.{fits}

@@ -1,11 +1,8 @@
 -- `anc::narrow` meets its contract. The loop's invariant: of the words passed, the largest says whether each fits. The measure is what is
 -- left of the length.
 -- Assumes nothing.
-use Rattle.std.proofs.Common.{◌≡◌, ℕ, ◌-◌, Bool, ◌&&◌, leb, List, length, get_or, ap, ◌∙◌, ⊎_elim, arith, rules}
-use mathlib.Core.Bool.{and_comm}
-use Rattle.basics.proofs.Laws.Each.{Passing, passing-none, passing-more, passing-all}
-use Rattle.anc.specs.Words.{narrow}
-use Rattle.anc.proofs.Laws.Words.{larger-fits}
+use Rattle.std.proofs.Common.{ℕ, ◌-◌, Bool, leb, length}
+use Rattle.basics.proofs.Laws.Each.{Passing}
 use Rattle.anc.proofs.narrow.Given as goal
 
 abbrev pub fits : ℕ → Bool

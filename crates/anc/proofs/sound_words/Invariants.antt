@@ -1,9 +1,8 @@
 -- `anc::sound_words` meets its contract. The loop's invariant: the first `i` places are filled. The measure is what is left of the length.
 -- Assumes nothing.
-use Rattle.std.proofs.Common.{◌≡◌, ℕ, ◌-◌, List, length, sym, ◌∙◌, arith, rules}
-use Rattle.basics.proofs.Laws.Parts.{Filling, filling-none, filling-more, filling-all}
+use Rattle.std.proofs.Common.{◌-◌, length}
+use Rattle.basics.proofs.Laws.Parts.{Filling}
 use Rattle.anc.specs.Words.{sound_words}
-use Rattle.anc.proofs.Laws.Words.{sound_words-length, sound_words-at, left_alone, filled-whole}
 use Rattle.anc.proofs.sound_words.Given as goal
 
 abbrev pub invariant-loop-i : goal.invariant-loop-i

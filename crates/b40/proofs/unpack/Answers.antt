@@ -1,9 +1,8 @@
 -- `b40::unpack` meets its contract, by what its checks said of the number that the first 32 bits spell.
 -- Assumes nothing.
 use mathlib.Core.Path.{ap, ◌∙◌}
-use borrow.Author.Rules.{rules}
 use Rattle.b40.specs.declared.Unpacked.TheVariants.{Refused}
-use Rattle.b40.proofs.Laws.Unpacking.{wrong-length, checks-read, not-unpacked, unpacked, all-passed, holds}
+use Rattle.b40.proofs.Laws.Unpacking.{wrong-length, checks-read, not-unpacked, unpacked}
 use Rattle.b40.proofs.unpack.Goals as goal
 
 pub returns-then-field-ne328 : goal.returns-then-field-ne328

@@ -4,7 +4,6 @@ use mathlib.Core.Path.{ap, ◌∙◌}
 use Rattle.writing.specs.Written.{refusal_in}
 use Rattle.b40.proofs.Laws.Packing.{refusal-said}
 use Rattle.answers.specs.Answers.{answer_by}
-use borrow.Author.Rules.{rules}
 use Rattle.capi.proofs.ay_pack.Goals as goal
 
 pub returns : goal.returns

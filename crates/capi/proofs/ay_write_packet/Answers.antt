@@ -4,7 +4,6 @@ use mathlib.Core.Path.{ap, ◌∙◌}
 use Rattle.writing.specs.Written.{refusal_in}
 use Rattle.writing.proofs.Laws.Writing.{refusal-said}
 use Rattle.answers.specs.Answers.{answer_by}
-use borrow.Author.Rules.{rules}
 use Rattle.capi.proofs.ay_write_packet.Goals as goal
 
 pub returns : goal.returns

@@ -1,7 +1,6 @@
 -- `desk::fill_opening` meets its contract: the six items stored over zeros are the opening record.
 -- Assumes nothing.
 use Rattle.desk.proofs.Laws.Opening.{opening-stored}
-use borrow.Author.Rules.{rules}
 use Rattle.desk.proofs.fill_opening.Goals as goal
 
 pub returns : goal.returns

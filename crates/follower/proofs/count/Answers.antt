@@ -2,7 +2,6 @@
 -- Assumes nothing.
 use mathlib.Core.Path.{sym}
 use native.Mathlib.Omega.{arith}
-use borrow.Author.Rules.{rules}
 use Rattle.follower.proofs.Laws.Count.{counted-below, counted-stops}
 use Rattle.follower.proofs.count.Goals as goal
 

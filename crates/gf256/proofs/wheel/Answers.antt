@@ -1,10 +1,10 @@
 -- `gf256::wheel` meets its contract: both turns are filled up to k.
 -- Assumes nothing.
 use borrow.Author.Rules.{rules}
-use mathlib.Core.Path.{◌≡◌, refl, subst}
-use Prim.Native.Nat.{ℕ, ◌≤◌, ◌-◌}
+use mathlib.Core.Path.{◌≡◌, subst}
+use Prim.Native.Nat.{ℕ}
 use native.Mathlib.Omega.{arith}
-use Rattle.gf256.proofs.Laws.Lent.{Turning, turn-none, turn_more, turn-all}
+use Rattle.gf256.proofs.Laws.Lent.{Turning, turn-none, turn-all}
 use Rattle.gf256.proofs.wheel.Goals as goal
 
 pub loop-k-init : goal.loop-k-init

@@ -1,10 +1,7 @@
 -- `gf256::wheel` meets its contract: both turns are filled up to k.
 -- Assumes nothing.
-use borrow.Author.Rules.{rules}
-use mathlib.Core.Path.{◌≡◌, refl, subst}
-use Prim.Native.Nat.{ℕ, ◌≤◌, ◌-◌}
-use native.Mathlib.Omega.{arith}
-use Rattle.gf256.proofs.Laws.Lent.{Turning, turn-none, turn_more, turn-all}
+use Prim.Native.Nat.{◌≤◌, ◌-◌}
+use Rattle.gf256.proofs.Laws.Lent.{Turning}
 use Rattle.gf256.proofs.wheel.Given as goal
 
 abbrev pub invariant-loop-k : goal.invariant-loop-k

@@ -4,7 +4,6 @@ use Prim.Native.Nat.{◌<◌}
 use native.Mathlib.Omega.{arith}
 use Rattle.items.specs.Item.{place_of}
 use Rattle.items.proofs.Laws.Item.{row_zero, row-none, place-known, first-at, length_at}
-use borrow.Author.Rules.{rules}
 use Rattle.items.proofs.item_place.Goals as goal
 
 pub returns-then-number-eq0 : goal.returns-then-number-eq0

@@ -5,9 +5,7 @@ use mathlib.Core.Path.{ap, ◌∙◌}
 use native.Mathlib.Omega.{arith}
 use borrow.Author.Tests.{eq-eqb, ne_eqb}
 use Rattle.items.specs.declared.ItemPlace.{ItemPlace}
-use Rattle.refusal.proofs.Laws.Chain.{passes, fails}
 use Rattle.items.proofs.Laws.Item.{place-lt, place-refused, item-checks}
-use borrow.Author.Rules.{rules}
 use Rattle.items.proofs.item_refusal.Goals as goal
 
 pub returns-in-Refused : goal.returns-in-Refused

@@ -5,7 +5,6 @@ use Rattle.lines.specs.Text.{written}
 use Rattle.lines.specs.Shown.{refused_word, refused_line}
 use Rattle.lines.specs.declared.page.Page.{Page}
 use Rattle.lines.proofs.Laws.Shown.{refused-parts}
-use borrow.Author.Rules.{rules}
 use Rattle.lines.proofs.refused.Goals as goal
 
 pub returns : goal.returns

@@ -3,7 +3,6 @@
 use mathlib.Core.Path.{refl}
 use lib.ListN.{replicate}
 use Rattle.lines.proofs.Laws.Shown.{field-shown, field-refused, shown-sized}
-use borrow.Author.Rules.{rules}
 use Rattle.lines.proofs.show.Goals as goal
 
 pub returns-in-Done : goal.returns-in-Done

@@ -3,7 +3,6 @@
 use mathlib.Core.Path.{refl}
 use lib.ListN.{replicate}
 use Rattle.lines.proofs.Laws.Shown.{packet-shown, packet-refused}
-use borrow.Author.Rules.{rules}
 use Rattle.lines.proofs.show_packet.Goals as goal
 
 pub returns-in-Accepted : goal.returns-in-Accepted

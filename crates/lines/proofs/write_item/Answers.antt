@@ -1,7 +1,6 @@
 -- `lines::write_item` meets its contract: the line part by part.
 -- Assumes nothing.
 use Rattle.lines.proofs.Laws.Shown.{item-parts}
-use borrow.Author.Rules.{rules}
 use Rattle.lines.proofs.write_item.Goals as goal
 
 pub returns : goal.returns

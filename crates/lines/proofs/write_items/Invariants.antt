@@ -1,15 +1,11 @@
 -- `lines::write_items` meets its contract. The loop's invariant: what is to be written is the rest of the items, on what the page is by now. The
 -- measure is how many are left.
 -- Assumes nothing.
-use mathlib.Core.Path.{◌≡◌, refl, sym, ap, ◌∙◌}
-use Prim.Native.Nat.{◌+◌, ◌≤◌, ◌-◌}
-use native.Mathlib.Omega.{arith}
+use mathlib.Core.Path.{◌≡◌}
+use Prim.Native.Nat.{◌≤◌, ◌-◌}
 use lib.ListN.{drop}
-use borrow.Author.Rules.{rules}
 use Rattle.lines.specs.Text.{written}
 use Rattle.lines.specs.Shown.{item_lines, numbers}
-use Rattle.lines.specs.declared.page.Page.{Page}
-use Rattle.lines.proofs.Laws.Shown.{items-step, items-end}
 use Rattle.lines.proofs.write_items.Given as goal
 
 abbrev pub invariant-loop-number : goal.invariant-loop-number

@@ -1,7 +1,6 @@
 -- `lines::write_three` meets its contract: the line part by part.
 -- Assumes nothing.
 use Rattle.lines.proofs.Laws.Shown.{three-parts}
-use borrow.Author.Rules.{rules}
 use Rattle.lines.proofs.write_three.Goals as goal
 
 pub returns : goal.returns

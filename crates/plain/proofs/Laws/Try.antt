@@ -9,7 +9,7 @@ use native.Mathlib.Omega.{arith}
 use lib.ListN.{length, get_or, length-map}
 use Rattle.basics.proofs.Laws.Test.{never, below_more}
 use Rattle.basics.proofs.Laws.Parts.{entries, entries_at}
-use Rattle.gf256.specs.Field.{◌⊕◌, ◌⊗◌, pow}
+use Rattle.gf256.specs.Field.{◌⊕◌, pow}
 use Rattle.gf256.specs.PowerSum.{Term, power_sum}
 use Rattle.gf256.proofs.Laws.Sum.{⊕-zero-l}
 use Rattle.gf256.proofs.Laws.Product.{⊗-zero-l}

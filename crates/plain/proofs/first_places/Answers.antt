@@ -1,7 +1,5 @@
 -- `plain::first_places` meets its contract: errors are given only where they are right, and those at fewer places were tried before.
 -- Assumes nothing.
-use mathlib.Core.Path.{refl}
-use mathlib.Core.List.{[]}
 use native.Mathlib.Omega.{arith}
 use Rattle.plain.proofs.Laws.Try.{settles-so, one_found, fewer-none, fewer-more, first-of-all}
 use borrow.Author.Rules.{rules}

@@ -6,7 +6,6 @@ use borrow.Author.Tests.{not-true, not-false}
 use Rattle.refusal.specs.declared.Checked.TheVariants.{Refused}
 use Rattle.basics.proofs.Laws.Below.{at-below}
 use Rattle.plain.proofs.Laws.Repair.{found-answer, lost-answer, refused-short, answered}
-use borrow.Author.Rules.{rules}
 use Rattle.plain.proofs.repair.Goals as goal
 
 pub returns-then-block-ne254 : goal.returns-then-block-ne254

@@ -1,8 +1,7 @@
 -- `plain::singles` meets its contract.
 -- Assumes nothing.
 use mathlib.Core.List.{[]}
-use Prim.Native.Nat.{◌-◌}
-use Rattle.plain.proofs.Laws.Try.{Sought, sought-none, sought-more, sought-all, first_more, none_found, first_found}
+use Rattle.plain.proofs.Laws.Try.{sought-more, sought-all, first_more, none_found, first_found}
 use borrow.Author.Rules.{rules}
 use Rattle.plain.proofs.singles.Goals as goal
 

@@ -2,8 +2,7 @@
 -- Assumes nothing.
 use mathlib.Core.List.{[], ◌∷◌}
 use Prim.Native.Nat.{◌+◌, ◌-◌}
-use Rattle.plain.proofs.Laws.Try.{Sought, sought-none, sought-more, sought-all, first_more, none_found, first_found}
-use borrow.Author.Rules.{rules}
+use Rattle.plain.proofs.Laws.Try.{Sought}
 use Rattle.plain.proofs.triples.Given as goal
 
 abbrev pub invariant-loop-k : goal.invariant-loop-k

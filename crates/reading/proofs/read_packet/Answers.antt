@@ -1,7 +1,6 @@
 -- `reading::read_packet` meets its contract: the chain of checks says whether there is a packet.
 -- Assumes nothing.
 use Rattle.reading.proofs.Laws.Answer.{answer-long, answer-room, answer-bytes, answer-accepted, answer-refused}
-use borrow.Author.Rules.{rules}
 use Rattle.reading.proofs.read_packet.Goals as goal
 
 pub packet-requires : goal.packet-requires

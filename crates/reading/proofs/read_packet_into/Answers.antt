@@ -10,7 +10,6 @@ use Rattle.record.specs.Record.{record_of}
 use Rattle.reading.specs.Reading.{correction_of, protected_of, read_record}
 use Rattle.reading.specs.Answer.{guard_bytes}
 use Rattle.reading.proofs.Laws.Answer.{answer-long, answer-room, answer-bytes, data-guard, into-full, into-accepted, left-written, into-refused, left-as-it-was}
-use borrow.Author.Rules.{rules}
 use Rattle.reading.proofs.read_packet_into.Goals as goal
 
 -- what is written is the record of 248 bytes, and that is the record that is read

@@ -23,7 +23,7 @@ use Rattle.refusal.specs.declared.Refusal.{Refusal}
 use Rattle.refusal.proofs.Laws.Chain.{require-passed, next-passed, require-behind, next-gives, other-number, passed-other, Without, without-passed, without-require, without-next, never-gives}
 use Rattle.refusal.proofs.Laws.Run.{first-exactly, first-without}
 use Rattle.items.specs.Items.{items}
-use Rattle.record.specs.Reserved.{reserved_area, used_at, reserved_refusal, byte, Used, FirstUsed}
+use Rattle.record.specs.Reserved.{reserved_area, used_at, reserved_refusal, Used, FirstUsed}
 use Rattle.record.specs.Record.{broken, content_refusal, record_refusal}
 use Rattle.record.proofs.Laws.Checks.{broken-without}
 

@@ -1,11 +1,8 @@
 -- `record::copy` meets its contract. The loop's invariant: the first `i` places are filled. The measure is what is left of the length.
 -- Assumes nothing.
-use mathlib.Core.Path.{refl, sym}
 use Prim.Native.Nat.{◌-◌}
-use native.Mathlib.Omega.{arith}
 use lib.ListN.{length}
-use Rattle.basics.proofs.Laws.Parts.{Filling, filling-none, filling-more, filling-all}
-use borrow.Author.Rules.{rules}
+use Rattle.basics.proofs.Laws.Parts.{Filling}
 use Rattle.record.proofs.copy.Given as goal
 
 abbrev pub invariant-loop-i : goal.invariant-loop-i

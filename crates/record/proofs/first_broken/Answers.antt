@@ -6,7 +6,6 @@ use Rattle.refusal.specs.declared.Reason.TheVariants.{Station, Time, Picture, So
 use Rattle.refusal.proofs.Laws.Chain.{chained-none, chained_more, chained-all}
 use Rattle.rules.specs.Rules.{time_rule, picture_rule}
 use Rattle.record.proofs.Laws.Checks.{six-checks}
-use borrow.Author.Rules.{rules}
 use Rattle.record.proofs.first_broken.Goals as goal
 
 pub returns : goal.returns

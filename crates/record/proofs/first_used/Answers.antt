@@ -2,13 +2,10 @@
 -- refused for. The measure is what is left of the length.
 -- Assumes nothing.
 use mathlib.Core.Path.{ap, ◌∙◌}
-use Prim.Native.Nat.{◌-◌}
 use native.Mathlib.Omega.{arith}
-use borrow.Author.Rules.{rules}
 use borrow.Author.Tests.{eq-eqb, ne_eqb}
-use lib.ListN.{length}
 use Rattle.refusal.specs.declared.Checked.TheVariants.{Passed, Refused}
-use Rattle.refusal.proofs.Laws.Run.{Walked, walked_none, walked_on, walked-stops, walked_all}
+use Rattle.refusal.proofs.Laws.Run.{walked_on, walked-stops, walked_all}
 use Rattle.record.specs.Reserved.{used_at}
 use Rattle.record.proofs.first_used.Goals as goal
 

@@ -1,10 +1,6 @@
 -- `record::item_part` meets its contract: the part from the item's place on is its bytes.
 -- Assumes nothing.
-use mathlib.Core.Path.{refl}
-use borrow.Author.Tests.{eq-eqb, ne_eqb}
-use Rattle.items.specs.Item.{place_in, place_of, part_in, item_part}
-use Rattle.record.specs.Stored.{item_lent, item_start}
-use Rattle.record.proofs.Laws.Stored.{place_inside, no_place, a-place, lent-part, lent-start}
+use Rattle.record.proofs.Laws.Stored.{place_inside, a-place, lent-part, lent-start}
 use borrow.Author.Rules.{rules}
 use Rattle.record.proofs.item_part.Goals as goal
 
@@ -19,9 +15,9 @@ overflow_add-result c = let h = place_inside _ _ c.item_place-place.ensures in s
 
 pub returns : goal.returns
 returns c = let a = c.args in (
-      lent-part _ _ a.bytes.now c.item_place-place.ensures c.if-bytes-ne248.false c.in_default.is,
-      lent-start a.number _ a.bytes.now a.bytes.ref_ptr c.item_place-place.ensures c.if-bytes-ne248.false,
-    )
+  lent-part _ _ a.bytes.now c.item_place-place.ensures c.if-bytes-ne248.false c.in_default.is,
+  lent-start a.number _ a.bytes.now a.bytes.ref_ptr c.item_place-place.ensures c.if-bytes-ne248.false,
+)
 
 pub slice_bounds-result-end-2 : goal.slice_bounds-result-end-2
 slice_bounds-result-end-2 c = let h = place_inside _ _ c.item_place-place.ensures in search rules

@@ -4,9 +4,8 @@ use mathlib.Core.Path.{refl}
 use native.Mathlib.Omega.{arith}
 use lib.ListN.{drop, length-drop}
 use lib.Seq.{take_all}
-use borrow.Author.Tests.{eq-eqb, ne_eqb}
+use borrow.Author.Tests.{eq-eqb}
 use Rattle.record.specs.Record.{private_part, private_start}
-use borrow.Author.Rules.{rules}
 use Rattle.record.proofs.private_part.Goals as goal
 
 pub returns-then-bytes-eq248 : goal.returns-then-bytes-eq248

@@ -3,7 +3,6 @@
 use mathlib.Core.Path.{sym, ap, ◌∙◌}
 use Rattle.rules.specs.Rules.{picture_clean}
 use Rattle.record.proofs.Laws.Stored.{mode-stored, plain-stored, store-refused, accepted, store-put}
-use borrow.Author.Rules.{rules}
 use Rattle.record.proofs.store_item.Goals as goal
 
 pub returns-in-Refused : goal.returns-in-Refused

@@ -4,7 +4,6 @@ use mathlib.Core.Path.{sym, ap, ◌∙◌}
 use Rattle.refusal.specs.Checked.{checked_of}
 use Rattle.rules.specs.Rules.{picture_clean}
 use Rattle.record.proofs.Laws.Record.{unwritten-bytes, unwritten-room, record-fits, record-written}
-use borrow.Author.Rules.{rules}
 use Rattle.record.proofs.write_record.Goals as goal
 
 pub returns-then-bytes-ne248 : goal.returns-then-bytes-ne248

@@ -10,7 +10,7 @@ use native.Mathlib.Numerals.{add-one}
 use native.Mathlib.Omega.{arith}
 use lib.ListN.{length, get_or, drop, drop_of_length-le}
 use lib.Seq.{drop-cons}
-use Rattle.refusal.specs.Chain.{passed, next}
+use Rattle.refusal.specs.Chain.{next}
 use Rattle.refusal.specs.Checked.{checked_of, refusal_in}
 use Rattle.refusal.specs.Run.{first_from, FirstRefused}
 use Rattle.refusal.specs.declared.Refusal.{Refusal}

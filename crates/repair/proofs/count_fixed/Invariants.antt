@@ -1,18 +1,11 @@
 -- `repair::count_fixed` meets its contract. The loop's invariant: the count is that of the first `i` places. The measure is
 -- what is left of the length.
 -- Assumes nothing.
-use mathlib.Core.Path.{◌≡◌, refl, sym, ap, ◌∙◌}
-use mathlib.Core.Logic.{⊎_elim}
-use mathlib.Core.List.{List}
-use Prim.Native.Nat.{ℕ, ◌≤◌, ◌<◌, ◌-◌}
-use native.Mathlib.Omega.{arith}
-use borrow.Author.Rules.{rules}
-use lib.ListN.{length, take, get_or}
+use mathlib.Core.Path.{◌≡◌}
+use Prim.Native.Nat.{◌≤◌, ◌-◌}
+use lib.ListN.{length, take}
 use Rattle.rs.specs.Decode.{changes}
 use Rattle.anc.specs.Words.{sound_words}
-use Rattle.repair.specs.declared.Repaired.TheVariants.{Fixed}
-use Rattle.repair.proofs.Laws.Changes.{changes-alike, changes-apart, changes-all, few_words, few_bytes, counted_words}
-use Rattle.anc.proofs.Laws.Words.{sound_words-length, sound_words-at}
 use Rattle.repair.proofs.count_fixed.Given as goal
 
 abbrev pub invariant-loop-i : goal.invariant-loop-i

@@ -4,9 +4,7 @@ use mathlib.Core.Path.{◌≡◌, sym, ap, ◌∙◌}
 use mathlib.Core.Bool.{true}
 use mathlib.Core.List.{List}
 use Prim.Native.Nat.{ℕ}
-use borrow.Author.Rules.{rules}
 use lib.ListN.{length}
-use borrow.Author.Tests.{not-true, not-false}
 use Rattle.refusal.specs.Checked.{checked_of}
 use Rattle.rs.specs.Decode.{changes}
 use Rattle.search.specs.Marked.{marked_refusal, marked_leaves}

@@ -20,7 +20,7 @@ use Rattle.rs.specs.Polynomial.{◌⊞◌, scale, zeros}
 use Rattle.rs.specs.Codeword.{divisor_bytes, next, remainder, parity_of, left_of}
 use Rattle.basics.specs.Below.{Bytes}
 use Rattle.rs.specs.Packed.{pack, unpack, turn, Multiples, Extended}
-use Rattle.rs.proofs.Laws.Polynomial.{length-⊞, length-scale, ⊞-bytes, scale-bytes}
+use Rattle.rs.proofs.Laws.Polynomial.{length-scale, ⊞-bytes, scale-bytes}
 use Rattle.basics.proofs.Laws.Below.{at-below, append-below, drop-below}
 use Rattle.basics.proofs.Laws.Parts.{entries, part-entries, all-entries}
 use Rattle.rs.proofs.Laws.Division.{parity-length, parity-bytes, parity-step}

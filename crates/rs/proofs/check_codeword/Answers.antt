@@ -1,6 +1,5 @@
 -- `rs::check_codeword` meets its contract: the packed remainder is 0 exactly where the block is a codeword.
 -- Assumes nothing.
-use borrow.Author.Rules.{rules}
 use mathlib.Core.Path.{sym, ap, ◌∙◌}
 use native.Mathlib.Omega.{arith}
 use Rattle.basics.proofs.Laws.Below.{at-below}

@@ -1,14 +1,11 @@
 -- `rs::divisor` meets its contract: before each turn, what the turns to come make of the product is G without its x^6.
 -- Assumes nothing.
-use borrow.Author.Rules.{rules}
-use mathlib.Core.Path.{◌≡◌, refl, ap, ◌∙◌}
+use mathlib.Core.Path.{◌≡◌}
 use mathlib.Core.List.{List, [], ◌∷◌}
-use Prim.Native.Nat.{ℕ, zero, suc, ◌+◌, ◌-◌, ◌≤◌}
-use native.Mathlib.Omega.{arith}
-use native.Mathlib.Numerals.{add-one}
+use Prim.Native.Nat.{ℕ, zero, suc, ◌-◌, ◌≤◌}
 use lib.ListN.{drop}
-use Rattle.gf256.specs.Field.{◌⊕◌, ◌⊗◌, by_bits, double, pow}
-use Rattle.rs.specs.Polynomial.{◌⊞◌, scale, ◌⊠◌}
+use Rattle.gf256.specs.Field.{pow}
+use Rattle.rs.specs.Polynomial.{◌⊠◌}
 use Rattle.rs.specs.Codeword.{divisor_bytes}
 use Rattle.rs.proofs.divisor.Given as goal
 

@@ -1,6 +1,5 @@
 -- `rs::parity` meets its contract: the six bytes of the packed parity.
 -- Assumes nothing.
-use borrow.Author.Rules.{rules}
 use mathlib.Core.Path.{ap, ◌∙◌}
 use Rattle.rs.specs.Packed.{unpack}
 use Rattle.rs.proofs.Laws.Division.{parity-length, parity-bytes}

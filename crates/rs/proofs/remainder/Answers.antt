@@ -1,6 +1,5 @@
 -- `rs::remainder` meets its contract: the six bytes of the packed remainder.
 -- Assumes nothing.
-use borrow.Author.Rules.{rules}
 use mathlib.Core.Path.{ap, ◌∙◌}
 use Rattle.rs.specs.Packed.{unpack}
 use Rattle.basics.proofs.Laws.Below.{at-below}

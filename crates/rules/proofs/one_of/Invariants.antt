@@ -1,15 +1,11 @@
 -- `rules::one_of` meets its contract. The loop's invariant: no entry was found so far exactly where each of them is another. The measure is
 -- what is left of the length.
 -- Assumes nothing.
-use mathlib.Core.Path.{◌≡◌, sym, ap, ◌∙◌}
-use mathlib.Core.Bool.{Bool, not, not-not}
+use mathlib.Core.Bool.{Bool, not}
 use Prim.Native.Nat.{ℕ, ◌-◌}
-use native.Mathlib.Omega.{arith}
 use lib.Dec.{eqb}
 use lib.ListN.{length}
-use Rattle.basics.proofs.Laws.Each.{Passing, passing-none, passing-more, passing-all}
-use Rattle.rules.proofs.Laws.Rules.{one_of-all, found-more}
-use borrow.Author.Rules.{rules}
+use Rattle.basics.proofs.Laws.Each.{Passing}
 use Rattle.rules.proofs.one_of.Given as goal
 
 abbrev pub other : ℕ → ℕ → Bool

@@ -3,12 +3,9 @@
 -- Assumes nothing.
 use mathlib.Core.Path.{ap}
 use mathlib.Core.Bool.{◌&&◌}
-use Prim.Native.Nat.{◌-◌}
 use native.Mathlib.Omega.{arith}
-use lib.ListN.{length}
-use Rattle.basics.proofs.Laws.Each.{Passing, passing-none, passing-more, passing-all}
+use Rattle.basics.proofs.Laws.Each.{passing-more, passing-all}
 use Rattle.rules.specs.Rules.{station_byte, station_rule}
-use borrow.Author.Rules.{rules}
 use Rattle.rules.proofs.station.Goals as goal
 
 pub loop-i-preserved : goal.loop-i-preserved

@@ -1,14 +1,10 @@
 -- `rules::station` meets its contract. The loop's invariant: the answer is that of the bytes passed. The measure is what is left of the
 -- length.
 -- Assumes nothing.
-use mathlib.Core.Path.{ap}
-use mathlib.Core.Bool.{◌&&◌}
 use Prim.Native.Nat.{◌-◌}
-use native.Mathlib.Omega.{arith}
 use lib.ListN.{length}
-use Rattle.basics.proofs.Laws.Each.{Passing, passing-none, passing-more, passing-all}
-use Rattle.rules.specs.Rules.{station_byte, station_rule}
-use borrow.Author.Rules.{rules}
+use Rattle.basics.proofs.Laws.Each.{Passing}
+use Rattle.rules.specs.Rules.{station_byte}
 use Rattle.rules.proofs.station.Given as goal
 
 abbrev pub invariant-loop-i : goal.invariant-loop-i

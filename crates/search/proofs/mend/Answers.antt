@@ -1,9 +1,7 @@
 -- `search::mend` meets its contract: what was found leads to the codeword, and where nothing was there is none.
 -- Assumes nothing.
-use borrow.Author.Tests.{not-true, not-false}
 use Rattle.basics.proofs.Laws.Below.{at-below}
 use Rattle.search.proofs.Laws.Repair.{found-answer, lost-answer}
-use borrow.Author.Rules.{rules}
 use Rattle.search.proofs.mend.Goals as goal
 
 pub returns-then-not-found : goal.returns-then-not-found

@@ -1,13 +1,9 @@
 -- `search::mend_marked` meets its contract: the first rule answers where there is a codeword by it, and else the second does.
 -- Assumes nothing.
-use mathlib.Core.Path.{sym, ap, ◌∙◌, subst}
-use mathlib.Core.List.{List}
-use Prim.Native.Nat.{ℕ}
+use mathlib.Core.Path.{ap, ◌∙◌}
 use native.Mathlib.Omega.{arith}
-use borrow.Author.Rules.{rules}
 use Rattle.rs.specs.Decode.{repairable, repaired}
 use Rattle.rs.proofs.Laws.Marked.{both-unmarked, none_both}
-use Rattle.search.specs.Search.{Damaged}
 use Rattle.search.specs.Marked.{confessed}
 use Rattle.search.proofs.Laws.Flags.{confessed-length}
 use Rattle.search.proofs.Laws.First.{first-answer, second-answer, many-marks}

@@ -1,8 +1,6 @@
 -- `search::mend_marks` meets its contract: what was found leads to the codeword of the first rule, and where nothing was there is none.
 -- Assumes nothing.
 use mathlib.Core.Path.{refl, sym}
-use borrow.Author.Rules.{rules}
-use borrow.Author.Tests.{not-true, not-false}
 use Rattle.basics.proofs.Laws.Below.{at-below}
 use Rattle.basics.proofs.Laws.Test.{never}
 use Rattle.search.proofs.Laws.First.{found-marked, lost-marked}

@@ -1,10 +1,8 @@
 -- `search::patch_all` meets its contract. The loop's invariant: the first `i` values have come in. The measure is how many are left.
 -- Assumes nothing.
-use mathlib.Core.Path.{◌∙◌}
-use Prim.Native.Nat.{◌-◌}
 use native.Mathlib.Omega.{arith}
 use borrow.Author.Rules.{rules}
-use Rattle.search.proofs.Laws.Patched.{Patching, patching-none, patching-more, patching-all}
+use Rattle.search.proofs.Laws.Patched.{patching-none, patching-more}
 use Rattle.search.proofs.patch_all.Goals as goal
 
 pub loop-i-init : goal.loop-i-init

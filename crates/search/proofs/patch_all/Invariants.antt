@@ -1,10 +1,7 @@
 -- `search::patch_all` meets its contract. The loop's invariant: the first `i` values have come in. The measure is how many are left.
 -- Assumes nothing.
-use mathlib.Core.Path.{◌∙◌}
 use Prim.Native.Nat.{◌-◌}
-use native.Mathlib.Omega.{arith}
-use borrow.Author.Rules.{rules}
-use Rattle.search.proofs.Laws.Patched.{Patching, patching-none, patching-more, patching-all}
+use Rattle.search.proofs.Laws.Patched.{Patching}
 use Rattle.search.proofs.patch_all.Given as goal
 
 abbrev pub invariant-loop-i : goal.invariant-loop-i

@@ -1,6 +1,5 @@
 -- `search::repair` meets its contract.
 -- Assumes nothing.
-use borrow.Author.Rules.{rules}
 use mathlib.Core.Path.{sym, ◌∙◌}
 use Rattle.basics.proofs.Laws.Below.{at-below}
 use Rattle.search.proofs.Laws.Repair.{nothing_left, something-left}

@@ -1,7 +1,6 @@
 -- `search::repair_marked` meets its contract.
 -- Assumes nothing.
 use mathlib.Core.Path.{sym, ap, ◌∙◌}
-use borrow.Author.Rules.{rules}
 use Rattle.basics.proofs.Laws.Below.{at-below}
 use Rattle.basics.proofs.Laws.Each.{same-equal}
 use Rattle.refusal.specs.declared.Checked.TheVariants.{Refused}

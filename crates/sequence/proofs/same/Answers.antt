@@ -2,11 +2,9 @@
 -- what is left of the length.
 -- Assumes nothing.
 use mathlib.Core.Path.{refl, sym, ap}
-use Prim.Native.Nat.{◌-◌}
 use native.Mathlib.Omega.{arith}
-use borrow.Author.Rules.{rules}
 use lib.ListN.{length}
-use Rattle.basics.proofs.Laws.Each.{same-other, Matching, matching-none, matching-more, matching-all}
+use Rattle.basics.proofs.Laws.Each.{same-other, matching-more, matching-all}
 use Rattle.sequence.proofs.same.Goals as goal
 
 pub returns-then-a-b : goal.returns-then-a-b

@@ -1,12 +1,9 @@
 -- `sequence::same` meets its contract. The loop's invariant: the lists are equally long, and the answer is that of the bytes passed. The measure is
 -- what is left of the length.
 -- Assumes nothing.
-use mathlib.Core.Path.{refl, sym, ap}
 use Prim.Native.Nat.{◌-◌}
-use native.Mathlib.Omega.{arith}
-use borrow.Author.Rules.{rules}
 use lib.ListN.{length}
-use Rattle.basics.proofs.Laws.Each.{same-other, Matching, matching-none, matching-more, matching-all}
+use Rattle.basics.proofs.Laws.Each.{Matching}
 use Rattle.sequence.proofs.same.Given as goal
 
 abbrev pub invariant-loop-i : goal.invariant-loop-i

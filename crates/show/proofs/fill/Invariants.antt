@@ -1,5 +1,5 @@
 -- What came so far lies within the room, which keeps its length. The measure is what is left of it.
-use Rattle.std.proofs.Common.{length, ◌-◌, ◌≤◌, ◌≡◌}
+use Rattle.std.proofs.Common.{length, ◌-◌, ◌≤◌}
 use Rattle.show.proofs.fill.Given as goal
 
 abbrev pub invariant-loop-got : goal.invariant-loop-got

@@ -4,12 +4,11 @@
 use mathlib.Core.Path.{sym, ap, ◌∙◌}
 use mathlib.Core.Bool.{◌&&◌}
 use mathlib.Core.List.{List}
-use Prim.Native.Nat.{ℕ, ◌-◌}
+use Prim.Native.Nat.{ℕ}
 use native.Mathlib.Omega.{arith}
-use borrow.Author.Rules.{rules}
 use lib.Dec.{eqb}
-use lib.ListN.{length, get_or}
-use Rattle.basics.proofs.Laws.Each.{Passing, passing-none, passing-more, passing-all}
+use lib.ListN.{get_or}
+use Rattle.basics.proofs.Laws.Each.{passing-more, passing-all}
 use Rattle.anc.specs.Word.{is_sound}
 use Rattle.anc.proofs.Laws.Word.{sound-word}
 use Rattle.soundness.proofs.all_sound.Goals as goal

@@ -2,7 +2,6 @@
 -- Assumes nothing.
 use mathlib.Core.Path.{sym, ap, ◌∙◌}
 use native.Mathlib.Omega.{arith}
-use borrow.Author.Rules.{rules}
 use Rattle.soundness.specs.declared.Soundness.TheVariants.{Refused}
 use Rattle.soundness.proofs.Laws.Check.{wide-refused, checked-bits}
 use Rattle.soundness.proofs.check_word.Goals as goal

@@ -1,7 +1,6 @@
 -- `soundness::check_words` meets its contract: where each word is sound nothing is refused, else the first that is not.
 -- Assumes nothing.
 use mathlib.Core.Path.{sym, ap, ◌∙◌}
-use borrow.Author.Rules.{rules}
 use Rattle.refusal.specs.Checked.{checked_of}
 use Rattle.refusal.specs.declared.Checked.TheVariants.{Refused}
 use Rattle.soundness.proofs.Laws.Run.{sound-passed, words-few, words-many}

@@ -2,11 +2,9 @@
 -- left of the length.
 -- Assumes nothing.
 use mathlib.Core.List.{List}
-use Prim.Native.Nat.{ℕ, ◌-◌}
+use Prim.Native.Nat.{ℕ}
 use native.Mathlib.Omega.{arith}
-use borrow.Author.Rules.{rules}
-use lib.ListN.{length}
-use Rattle.refusal.proofs.Laws.Run.{Walked, walked_none, walked_more, walked_all}
+use Rattle.refusal.proofs.Laws.Run.{walked_more, walked_all}
 use Rattle.soundness.specs.Check.{unsound_at, unsound_from}
 use Rattle.soundness.proofs.first_unsound.Goals as goal
 

@@ -1,13 +1,10 @@
 -- `soundness::first_unsound` meets its contract. The loop's invariant: what is found is what the words passed are refused for. The measure is what is
 -- left of the length.
 -- Assumes nothing.
-use mathlib.Core.List.{List}
-use Prim.Native.Nat.{ℕ, ◌-◌}
-use native.Mathlib.Omega.{arith}
-use borrow.Author.Rules.{rules}
+use Prim.Native.Nat.{◌-◌}
 use lib.ListN.{length}
-use Rattle.refusal.proofs.Laws.Run.{Walked, walked_none, walked_more, walked_all}
-use Rattle.soundness.specs.Check.{unsound_at, unsound_from}
+use Rattle.refusal.proofs.Laws.Run.{Walked}
+use Rattle.soundness.specs.Check.{unsound_at}
 use Rattle.soundness.proofs.first_unsound.Given as goal
 
 abbrev pub invariant-loop-i : goal.invariant-loop-i

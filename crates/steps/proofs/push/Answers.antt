@@ -1,11 +1,9 @@
 -- `steps::push` meets its contract. The loop's invariant: the first places hold the steps behind them, the others what they held. The measure
 -- is what is left of the depth.
 -- Assumes nothing.
-use mathlib.Core.Path.{◌≡◌, refl}
-use mathlib.Core.List.{◌++◌}
-use Prim.Native.Nat.{◌-◌, ◌≤◌}
+use mathlib.Core.Path.{◌≡◌}
 use native.Mathlib.Omega.{arith}
-use lib.ListN.{length, take, drop}
+use lib.ListN.{length}
 use Rattle.steps.proofs.Laws.Parts.{shift-more, pushed-few, pushed-full}
 use borrow.Author.Rules.{rules}
 use Rattle.steps.proofs.push.Goals as goal

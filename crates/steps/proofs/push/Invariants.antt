@@ -1,13 +1,10 @@
 -- `steps::push` meets its contract. The loop's invariant: the first places hold the steps behind them, the others what they held. The measure
 -- is what is left of the depth.
 -- Assumes nothing.
-use mathlib.Core.Path.{◌≡◌, refl}
+use mathlib.Core.Path.{◌≡◌}
 use mathlib.Core.List.{◌++◌}
 use Prim.Native.Nat.{◌-◌, ◌≤◌}
-use native.Mathlib.Omega.{arith}
-use lib.ListN.{length, take, drop}
-use Rattle.steps.proofs.Laws.Parts.{shift-more, pushed-few, pushed-full}
-use borrow.Author.Rules.{rules}
+use lib.ListN.{take, drop}
 use Rattle.steps.proofs.push.Given as goal
 
 abbrev pub invariant-loop-i : goal.invariant-loop-i

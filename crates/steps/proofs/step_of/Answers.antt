@@ -1,11 +1,9 @@
 -- `steps::step_of` meets its contract. The loop's invariant: the first places hold the item's bytes, the others zeros. The measure is what is
 -- left of the item.
 -- Assumes nothing.
-use mathlib.Core.Path.{◌≡◌, refl, ap}
-use mathlib.Core.List.{◌++◌}
-use Prim.Native.Nat.{◌-◌, ◌≤◌}
+use mathlib.Core.Path.{refl, ap}
 use native.Mathlib.Omega.{arith}
-use lib.ListN.{length, take, drop, replicate}
+use lib.ListN.{length, replicate}
 use Rattle.steps.specs.Steps.{step_room}
 use Rattle.steps.proofs.Laws.Parts.{lent-short, copy_more, step-copied, kept-is}
 use borrow.Author.Rules.{rules}

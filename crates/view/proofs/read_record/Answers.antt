@@ -1,6 +1,5 @@
 -- `view::read_record` meets its contract: the check says which view stands beside it.
 -- Assumes nothing.
-use borrow.Author.Rules.{rules}
 use Rattle.record.proofs.Laws.Checks.{passed-long}
 use Rattle.view.proofs.Laws.Read.{read-passed, read-refused}
 use Rattle.view.proofs.read_record.Goals as goal

@@ -1,7 +1,6 @@
 -- `writing::given_refusal` meets its contract: each return is one case of its two tests.
 -- Assumes nothing.
 use mathlib.Core.Path.{sym, ap, ◌∙◌}
-use borrow.Author.Rules.{rules}
 use Rattle.refusal.specs.Checked.{checked_of}
 use Rattle.refusal.specs.declared.Checked.TheVariants.{Refused}
 use Rattle.writing.proofs.Laws.Writing.{given-size, given-index, given-passes}

@@ -1,7 +1,6 @@
 -- `writing::write_packet` meets its contract: by what the checks said, a refusal or what is written of the record as it stands.
 -- Assumes nothing.
 use mathlib.Core.Path.{refl, ◌∙◌}
-use borrow.Author.Rules.{rules}
 use Rattle.writing.specs.Written.{written_of, write_leaves}
 use Rattle.writing.proofs.Laws.Writing.{not_written, all_right}
 use Rattle.writing.proofs.write_packet.Goals as goal

@@ -1,9 +1,8 @@
 -- `b40::field::byte` meets its contract: eight bits within two neighbouring words of ten.
 -- Assumes nothing.
 use mathlib.Core.Path.{sym}
-use Prim.Native.Nat.{◌+◌, ◌-◌}
+use Prim.Native.Nat.{◌-◌}
 use native.Mathlib.Omega.{arith}
-use borrow.Author.Rules.{rules}
 use Rattle.anc.proofs.Laws.Words.{narrow_below}
 use Rattle.b40.proofs.Laws.Window.{pair}
 use Rattle.b40.proofs.field.byte.Goals as goal

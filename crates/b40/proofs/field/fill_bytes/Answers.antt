@@ -2,10 +2,9 @@
 -- The measure is what is left of 65 groups.
 -- Assumes nothing.
 use mathlib.Core.Path.{◌≡◌, refl, ap, ◌∙◌}
-use Prim.Native.Nat.{◌+◌, ◌*◌, ◌-◌, ◌≤◌}
+use Prim.Native.Nat.{◌+◌, ◌*◌}
 use native.Mathlib.Omega.{arith}
-use borrow.Author.Rules.{rules}
-use lib.ListN.{length, length-set}
+use lib.ListN.{length-set}
 use Rattle.basics.proofs.Laws.Parts.{filled}
 use Rattle.b40.specs.Field.{bits_each, numbers}
 use Rattle.b40.proofs.Laws.Window.{placed, placed-all}

@@ -1,14 +1,11 @@
 -- `b40::field::fill_bytes` meets its contract. The loop's invariant: the places of the first `i` groups of five are filled with runs of eight bits.
 -- The measure is what is left of 65 groups.
 -- Assumes nothing.
-use mathlib.Core.Path.{◌≡◌, refl, ap, ◌∙◌}
-use Prim.Native.Nat.{◌+◌, ◌*◌, ◌-◌, ◌≤◌}
-use native.Mathlib.Omega.{arith}
-use borrow.Author.Rules.{rules}
-use lib.ListN.{length, length-set}
+use mathlib.Core.Path.{◌≡◌}
+use Prim.Native.Nat.{◌*◌, ◌-◌, ◌≤◌}
+use lib.ListN.{length}
 use Rattle.basics.proofs.Laws.Parts.{filled}
 use Rattle.b40.specs.Field.{bits_each, numbers}
-use Rattle.b40.proofs.Laws.Window.{placed, placed-all}
 use Rattle.b40.proofs.field.fill_bytes.Given as goal
 
 abbrev pub invariant-loop-i : goal.invariant-loop-i

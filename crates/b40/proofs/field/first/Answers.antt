@@ -1,7 +1,5 @@
 -- `b40::field::first` meets its contract: 32 bits within four bytes.
 -- Assumes nothing.
-use native.Mathlib.Omega.{arith}
-use borrow.Author.Rules.{rules}
 use Rattle.basics.proofs.Laws.Below.{at-below}
 use Rattle.b40.proofs.Laws.Places.{first-bytes}
 use Rattle.b40.proofs.field.first.Goals as goal

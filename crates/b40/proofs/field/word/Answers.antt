@@ -1,9 +1,8 @@
 -- `b40::field::word` meets its contract: ten bits within two neighbouring bytes.
 -- Assumes nothing.
 use mathlib.Core.Path.{sym}
-use Prim.Native.Nat.{◌+◌, ◌-◌}
+use Prim.Native.Nat.{◌-◌}
 use native.Mathlib.Omega.{arith}
-use borrow.Author.Rules.{rules}
 use Rattle.b40.specs.Field.{bits_of, part}
 use Rattle.basics.proofs.Laws.Below.{at-below}
 use Rattle.b40.proofs.Laws.Window.{pair}

@@ -1,17 +1,15 @@
 -- `b40::field::write_bytes` meets its contract. The loop's invariant: the first `i` words are copied. The measure is what is left of the words.
 -- Assumes nothing.
 use mathlib.Core.Path.{◌≡◌, refl, sym, ap, ◌∙◌}
-use mathlib.Core.Logic.{⊎_elim}
 use mathlib.Core.List.{List, [], ◌∷◌, ◌++◌}
-use Prim.Native.Nat.{ℕ, ◌+◌, ◌*◌, ◌/◌, ◌%◌, ◌-◌, ◌≤◌}
+use Prim.Native.Nat.{ℕ, ◌/◌, ◌%◌}
 use native.Mathlib.Omega.{arith}
-use borrow.Author.Rules.{rules}
 use lib.ListN.{length, set, replicate, length-set}
 use lib.Seq.{take_all}
 use Rattle.basics.proofs.Laws.Parts.{filled, filled_more}
 use Rattle.anc.specs.Words.{narrow}
 use Rattle.b40.specs.Field.{bits_each, numbers}
-use Rattle.b40.proofs.Laws.Places.{place-lt, head_number, head-lt, with-yc, without-yc, tens, tens-built, tens-narrow, field-tens}
+use Rattle.b40.proofs.Laws.Places.{tens, tens-built, tens-narrow, field-tens}
 use Rattle.b40.proofs.field.write_bytes.Goals as goal
 
 -- the words that are handed on

@@ -1,17 +1,10 @@
 -- `b40::field::write_bytes` meets its contract. The loop's invariant: the first `i` words are copied. The measure is what is left of the words.
 -- Assumes nothing.
-use mathlib.Core.Path.{◌≡◌, refl, sym, ap, ◌∙◌}
-use mathlib.Core.Logic.{⊎_elim}
-use mathlib.Core.List.{List, [], ◌∷◌, ◌++◌}
-use Prim.Native.Nat.{ℕ, ◌+◌, ◌*◌, ◌/◌, ◌%◌, ◌-◌, ◌≤◌}
-use native.Mathlib.Omega.{arith}
-use borrow.Author.Rules.{rules}
-use lib.ListN.{length, set, replicate, length-set}
-use lib.Seq.{take_all}
-use Rattle.basics.proofs.Laws.Parts.{filled, filled_more}
-use Rattle.anc.specs.Words.{narrow}
-use Rattle.b40.specs.Field.{bits_each, numbers}
-use Rattle.b40.proofs.Laws.Places.{place-lt, head_number, head-lt, with-yc, without-yc, tens, tens-built, tens-narrow, field-tens}
+use mathlib.Core.Path.{◌≡◌}
+use Prim.Native.Nat.{◌-◌, ◌≤◌}
+use lib.ListN.{length, replicate}
+use Rattle.basics.proofs.Laws.Parts.{filled}
+use Rattle.b40.proofs.Laws.Places.{head_number}
 use Rattle.b40.proofs.field.write_bytes.Given as goal
 
 abbrev pub invariant-loop-i : goal.invariant-loop-i

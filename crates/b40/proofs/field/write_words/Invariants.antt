@@ -1,17 +1,11 @@
 -- `b40::field::write_words` meets its contract. The loop's invariant: the places of the first `i` groups of four are filled with runs of ten bits.
 -- The measure is what is left of 65 groups.
 -- Assumes nothing.
-use mathlib.Core.Path.{◌≡◌, refl, ap, ◌∙◌}
-use mathlib.Core.List.{List}
-use Prim.Native.Nat.{ℕ, ◌+◌, ◌*◌, ◌-◌, ◌≤◌}
-use native.Mathlib.Omega.{arith}
-use borrow.Author.Rules.{rules}
-use lib.ListN.{length, set, length-set}
+use mathlib.Core.Path.{◌≡◌}
+use Prim.Native.Nat.{◌*◌, ◌-◌, ◌≤◌}
+use lib.ListN.{length}
 use Rattle.basics.proofs.Laws.Parts.{filled}
-use Rattle.b40.specs.Field.{bits_of, part, numbers}
-use Rattle.b40.proofs.Laws.Bits.{numbers-length}
-use Rattle.b40.proofs.Laws.Places.{three-over, held-words}
-use Rattle.b40.proofs.Laws.Window.{placed, placed-all}
+use Rattle.b40.specs.Field.{bits_of, numbers}
 use Rattle.b40.proofs.field.write_words.Given as goal
 
 abbrev pub invariant-loop-i : goal.invariant-loop-i

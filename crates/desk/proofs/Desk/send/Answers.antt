@@ -3,7 +3,7 @@
 use mathlib.Core.Path.{◌≡◌, refl, ◌∙◌}
 use lib.ListN.{length}
 use Rattle.desk.specs.Desk.{send_refusal, sent, send_leaves}
-use Rattle.desk.proofs.Laws.Calls.{send-room, send-writes}
+use Rattle.desk.proofs.Laws.Calls.{send-writes}
 use borrow.Author.Rules.{rules}
 use Rattle.desk.proofs.Desk.send.Goals as goal
 

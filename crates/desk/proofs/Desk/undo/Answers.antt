@@ -2,7 +2,6 @@
 -- Assumes nothing.
 use Rattle.desk.specs.Desk.{undone}
 use Rattle.desk.proofs.Laws.Calls.{undo-none, undo-passes}
-use borrow.Author.Rules.{rules}
 use Rattle.desk.proofs.Desk.undo.Goals as goal
 
 pub returns-then-count-eq0 : goal.returns-then-count-eq0

@@ -1,7 +1,6 @@
 -- `follower::Follower::follow` meets its contract: what reading answered and left says what follows.
 -- Assumes nothing.
 use mathlib.Core.Path.{refl, ◌∙◌}
-use borrow.Author.Rules.{rules}
 use lib.ListN.{replicate}
 use Rattle.follower.specs.Follower.{refuses}
 use Rattle.follower.proofs.Laws.Read.{follow-accepted, follow-refused}

@@ -1,15 +1,11 @@
 -- `items::item::rule` meets its contract: the number tells the row of the table, and a row without a rule lets anything pass.
 -- Assumes nothing.
-use mathlib.Core.Path.{◌≡◌, refl, sym, ap, ◌∙◌}
-use mathlib.Core.Bool.{true}
-use native.Mathlib.Omega.{arith}
+use mathlib.Core.Path.{◌≡◌, sym, ◌∙◌}
 use lib.ListN.{length}
 use Rattle.items.specs.Items.{items}
 use Rattle.items.specs.Item.{row_of, place_in, place_of, rule_in, rule_of}
-use Rattle.rules.specs.Rules.{time_rule, picture_rule}
 use Rattle.rules.proofs.Laws.Rules.{sound-one}
-use Rattle.items.proofs.Laws.Item.{long-at, no-rule}
-use borrow.Author.Rules.{rules}
+use Rattle.items.proofs.Laws.Item.{long-at}
 use Rattle.items.proofs.item.rule.Goals as goal
 
 pub returns-then-number-eq6 : goal.returns-then-number-eq6

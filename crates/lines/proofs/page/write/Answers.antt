@@ -1,11 +1,10 @@
 -- `lines::page::write` meets its contract. The loop's invariant: what is to be written is the rest of the text, on what the page is by now. The
 -- measure is what is left of the length.
 -- Assumes nothing.
-use mathlib.Core.Path.{◌≡◌, refl, sym, ap, ◌∙◌}
-use Prim.Native.Nat.{◌+◌, ◌≤◌, ◌-◌}
+use mathlib.Core.Path.{sym, ap, ◌∙◌}
+use Prim.Native.Nat.{◌+◌}
 use native.Mathlib.Omega.{arith}
-use borrow.Author.Rules.{rules}
-use lib.ListN.{length, drop}
+use lib.ListN.{drop}
 use Rattle.lines.specs.Text.{written}
 use Rattle.lines.specs.declared.page.Page.{Page}
 use Rattle.lines.proofs.Laws.Page.{write_step, write-end}

@@ -1,14 +1,10 @@
 -- `lines::page::write` meets its contract. The loop's invariant: what is to be written is the rest of the text, on what the page is by now. The
 -- measure is what is left of the length.
 -- Assumes nothing.
-use mathlib.Core.Path.{◌≡◌, refl, sym, ap, ◌∙◌}
-use Prim.Native.Nat.{◌+◌, ◌≤◌, ◌-◌}
-use native.Mathlib.Omega.{arith}
-use borrow.Author.Rules.{rules}
+use mathlib.Core.Path.{◌≡◌}
+use Prim.Native.Nat.{◌≤◌, ◌-◌}
 use lib.ListN.{length, drop}
 use Rattle.lines.specs.Text.{written}
-use Rattle.lines.specs.declared.page.Page.{Page}
-use Rattle.lines.proofs.Laws.Page.{write_step, write-end}
 use Rattle.lines.proofs.page.write.Given as goal
 
 abbrev pub invariant-loop-i : goal.invariant-loop-i

@@ -1,14 +1,10 @@
 -- `lines::page::write_bytes` meets its contract. The loop's invariant: what is to be written is the rest of the bytes, on what the page is by now.
 -- The measure is what is left of the length.
 -- Assumes nothing.
-use mathlib.Core.Path.{◌≡◌, refl, sym, ap, ◌∙◌}
-use Prim.Native.Nat.{◌+◌, ◌≤◌, ◌-◌}
-use native.Mathlib.Omega.{arith}
-use borrow.Author.Rules.{rules}
+use mathlib.Core.Path.{◌≡◌}
+use Prim.Native.Nat.{◌≤◌, ◌-◌}
 use lib.ListN.{length, drop}
 use Rattle.lines.specs.Text.{hex_bytes, written}
-use Rattle.lines.specs.declared.page.Page.{Page}
-use Rattle.lines.proofs.Laws.Page.{hex-step, hex-end}
 use Rattle.lines.proofs.page.write_bytes.Given as goal
 
 abbrev pub invariant-loop-i : goal.invariant-loop-i

@@ -1,7 +1,6 @@
 -- `lines::page::write_number` meets its contract: the digits from the first that counts on.
 -- Assumes nothing.
 use mathlib.Core.Path.{ap, ◌∙◌}
-use borrow.Author.Rules.{rules}
 use Rattle.lines.specs.Text.{written}
 use Rattle.lines.proofs.Laws.Page.{decimal-part}
 use Rattle.lines.proofs.page.write_number.Goals as goal

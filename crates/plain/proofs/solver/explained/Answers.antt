@@ -4,9 +4,8 @@ use borrow.Author.Rules.{rules}
 use mathlib.Core.Path.{sym, ◌∙◌, ap}
 use mir.Val.{Fits}
 use mir.Syntax.{w8}
-use Prim.Native.Nat.{◌-◌, ◌≤◌}
 use Rattle.gf256.specs.Field.{◌⊕◌}
-use Rattle.plain.proofs.Laws.Judge.{Parts, parts_none, parts_more, judged-false, judged-true}
+use Rattle.plain.proofs.Laws.Judge.{parts_none, parts_more, judged-false}
 use Rattle.plain.proofs.solver.explained.Goals as goal
 
 pub loop-m-init : goal.loop-m-init
@@ -21,7 +20,7 @@ returns-then-s-m c = let l = c.loop-m in
 
 pub loop-m-preserved : goal.loop-m-preserved
 loop-m-preserved c = let l = c.loop-m in (
-      parts_more _ _ _ _ _ _ _ _ _ _ _ l.invariant.0 _ _ _ (c.if-s-m.false ∙ c.sum-in-loop-m.ensures ∙ ap (◌⊕◌ l.u) c.sum.ensures)
-          c.times-u.ensures c.times-v.ensures c.times-w.ensures,
-      search rules,
-    )
+  parts_more _ _ _ _ _ _ _ _ _ _ _ l.invariant.0 _ _ _ (c.if-s-m.false ∙ c.sum-in-loop-m.ensures ∙ ap (◌⊕◌ l.u) c.sum.ensures)
+      c.times-u.ensures c.times-v.ensures c.times-w.ensures,
+  search rules,
+)

@@ -1,12 +1,7 @@
 -- `plain::solver::explained` meets its contract: a sum at a time.
 -- Assumes nothing.
-use borrow.Author.Rules.{rules}
-use mathlib.Core.Path.{sym, ◌∙◌, ap}
-use mir.Val.{Fits}
-use mir.Syntax.{w8}
 use Prim.Native.Nat.{◌-◌, ◌≤◌}
-use Rattle.gf256.specs.Field.{◌⊕◌}
-use Rattle.plain.proofs.Laws.Judge.{Parts, parts_none, parts_more, judged-false, judged-true}
+use Rattle.plain.proofs.Laws.Judge.{Parts}
 use Rattle.plain.proofs.solver.explained.Given as goal
 
 abbrev pub invariant-loop-m : goal.invariant-loop-m

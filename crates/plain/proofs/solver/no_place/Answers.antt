@@ -1,7 +1,6 @@
 -- `plain::solver::no_place` meets its contract.
 -- Assumes nothing.
 use Rattle.plain.proofs.Laws.Try.{tried-none}
-use borrow.Author.Rules.{rules}
 use Rattle.plain.proofs.solver.no_place.Goals as goal
 
 pub returns : goal.returns

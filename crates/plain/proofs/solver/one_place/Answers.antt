@@ -1,7 +1,6 @@
 -- `plain::solver::one_place` meets its contract.
 -- Assumes nothing.
 use Rattle.plain.proofs.Laws.Try.{tried-one}
-use borrow.Author.Rules.{rules}
 use Rattle.plain.proofs.solver.one_place.Goals as goal
 
 pub returns : goal.returns

@@ -1,10 +1,7 @@
 -- `plain::solver::sums` meets its contract: a sum at a time.
 -- Assumes nothing.
 use Prim.Native.Nat.{◌-◌, ◌≤◌}
-use mathlib.Core.Path.{refl}
-use native.Mathlib.Omega.{arith}
-use Rattle.plain.proofs.Laws.Sums.{Summed, summed-more}
-use borrow.Author.Rules.{rules}
+use Rattle.plain.proofs.Laws.Sums.{Summed}
 use Rattle.plain.proofs.solver.sums.Given as goal
 
 abbrev pub invariant-loop-m : goal.invariant-loop-m

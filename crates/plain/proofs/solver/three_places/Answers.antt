@@ -1,14 +1,8 @@
 -- `plain::solver::three_places` meets its contract.
 -- Assumes nothing.
-use mathlib.Core.Path.{sym, ◌∙◌, subst₃}
-use mathlib.Core.List.{[], ◌∷◌}
-use Prim.Native.Nat.{ℕ}
+use mathlib.Core.Path.{sym, ◌∙◌}
 use native.Mathlib.Omega.{arith}
-use Rattle.basics.proofs.Laws.Parts.{entries}
-use Rattle.plain.specs.Plain.{Solves}
 use Rattle.plain.proofs.Laws.Solve.{apart}
-use Rattle.plain.proofs.Laws.Try.{tried-three}
-use borrow.Author.Rules.{rules}
 use Rattle.plain.proofs.solver.three_places.Goals as goal
 
 pub three-v-requires : goal.three-v-requires

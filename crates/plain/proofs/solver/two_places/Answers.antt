@@ -7,7 +7,6 @@ use Rattle.basics.proofs.Laws.Parts.{entries}
 use Rattle.plain.specs.Plain.{Solves}
 use Rattle.plain.proofs.Laws.Solve.{apart}
 use Rattle.plain.proofs.Laws.Try.{tried-two}
-use borrow.Author.Rules.{rules}
 use Rattle.plain.proofs.solver.two_places.Goals as goal
 
 pub two-v-requires : goal.two-v-requires

@@ -1,9 +1,7 @@
 -- `plain::solver::value` meets its contract: a byte at a time.
 -- Assumes nothing.
 use borrow.Author.Rules.{rules}
-use Prim.Native.Nat.{◌-◌}
-use lib.ListN.{length}
-use Rattle.plain.proofs.Laws.Sums.{Valued, valued-none, valued-more, valued-all}
+use Rattle.plain.proofs.Laws.Sums.{valued-none, valued-more}
 use Rattle.plain.proofs.solver.value.Goals as goal
 
 pub loop-i-init : goal.loop-i-init

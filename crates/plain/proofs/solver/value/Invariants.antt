@@ -1,9 +1,8 @@
 -- `plain::solver::value` meets its contract: a byte at a time.
 -- Assumes nothing.
-use borrow.Author.Rules.{rules}
 use Prim.Native.Nat.{◌-◌}
 use lib.ListN.{length}
-use Rattle.plain.proofs.Laws.Sums.{Valued, valued-none, valued-more, valued-all}
+use Rattle.plain.proofs.Laws.Sums.{Valued}
 use Rattle.plain.proofs.solver.value.Given as goal
 
 abbrev pub invariant-loop-i : goal.invariant-loop-i

@@ -2,11 +2,8 @@
 -- the length.
 -- Assumes nothing.
 use mathlib.Core.Path.{refl}
-use Prim.Native.Nat.{◌-◌}
 use native.Mathlib.Omega.{arith}
-use borrow.Author.Rules.{rules}
-use lib.ListN.{length}
-use Rattle.basics.proofs.Laws.Each.{Passing, passing-none, passing-more, passing-all}
+use Rattle.basics.proofs.Laws.Each.{passing-more, passing-all}
 use Rattle.reading.specs.Reading.{is_fill}
 use Rattle.reading.proofs.reader.all_fill.Goals as goal
 

@@ -1,12 +1,9 @@
 -- `reading::reader::all_fill` meets its contract. The loop's invariant: the answer is that of the words passed. The measure is what is left of
 -- the length.
 -- Assumes nothing.
-use mathlib.Core.Path.{refl}
 use Prim.Native.Nat.{◌-◌}
-use native.Mathlib.Omega.{arith}
-use borrow.Author.Rules.{rules}
 use lib.ListN.{length}
-use Rattle.basics.proofs.Laws.Each.{Passing, passing-none, passing-more, passing-all}
+use Rattle.basics.proofs.Laws.Each.{Passing}
 use Rattle.reading.specs.Reading.{is_fill}
 use Rattle.reading.proofs.reader.all_fill.Given as goal
 

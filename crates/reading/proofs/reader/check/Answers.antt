@@ -2,7 +2,6 @@
 -- Assumes nothing.
 use mathlib.Core.Path.{◌∙◌}
 use Rattle.reading.proofs.Laws.Answer.{head-long, whole-passed, whole-refused, left_passed, left-refused}
-use borrow.Author.Rules.{rules}
 use Rattle.reading.proofs.reader.check.Goals as goal
 
 pub check_body-requires : goal.check_body-requires

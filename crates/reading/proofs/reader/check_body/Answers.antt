@@ -3,7 +3,6 @@
 use mathlib.Core.Path.{refl}
 use Rattle.reading.specs.Reading.{correction_of, protected_of}
 use Rattle.reading.proofs.Laws.Answer.{body-passed, body_refused}
-use borrow.Author.Rules.{rules}
 use Rattle.reading.proofs.reader.check_body.Goals as goal
 
 pub returns-in-Passed : goal.returns-in-Passed

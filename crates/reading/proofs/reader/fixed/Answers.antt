@@ -1,7 +1,6 @@
 -- `reading::reader::fixed` meets its contract: of 254 words and 254 bytes the count is not refused.
 -- Assumes nothing.
 use Rattle.reading.proofs.Laws.Reader.{fixed_told, fixed-never}
-use borrow.Author.Rules.{rules}
 use Rattle.reading.proofs.reader.fixed.Goals as goal
 
 pub returns-in-Fixed : goal.returns-in-Fixed

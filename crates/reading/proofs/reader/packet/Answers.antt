@@ -5,7 +5,6 @@ use Prim.Native.Nat.{ℕ}
 use borrow.Author.Tests.{eq-eqb, ne_eqb}
 use Rattle.reading.specs.Reading.{correction_of, protected_of}
 use Rattle.reading.proofs.Laws.Reader.{packet-on, packet-off}
-use borrow.Author.Rules.{rules}
 use Rattle.reading.proofs.reader.packet.Goals as goal
 
 pub returns-then-words-eq1 : goal.returns-then-words-eq1

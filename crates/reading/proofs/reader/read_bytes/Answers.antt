@@ -4,7 +4,6 @@ use mathlib.Core.Path.{sym, ap, ◌∙◌}
 use mathlib.Core.List.{List}
 use Prim.Native.Nat.{ℕ}
 use native.Mathlib.Omega.{arith}
-use borrow.Author.Rules.{rules}
 use Rattle.basics.specs.Each.{all}
 use Rattle.basics.proofs.Laws.Parts.{take-most}
 use Rattle.soundness.specs.Check.{unsound_from}

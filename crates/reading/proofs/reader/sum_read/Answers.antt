@@ -3,7 +3,6 @@
 use mathlib.Core.Path.{ap, ◌∙◌}
 use Rattle.anc.specs.Word.{checksum_of}
 use Rattle.reading.proofs.Laws.Reader.{summed-off}
-use borrow.Author.Rules.{rules}
 use Rattle.reading.proofs.reader.sum_read.Goals as goal
 
 pub returns : goal.returns

@@ -3,8 +3,7 @@
 use mathlib.Core.Path.{ap, ◌∙◌}
 use Rattle.anc.specs.Word.{checksum_of}
 use Rattle.anc.proofs.Laws.Words.{sound-filled}
-use Rattle.reading.proofs.Laws.Reader.{four-more, summed-on}
-use borrow.Author.Rules.{rules}
+use Rattle.reading.proofs.Laws.Reader.{summed-on}
 use Rattle.reading.proofs.reader.sum_rewritten.Goals as goal
 
 pub returns : goal.returns

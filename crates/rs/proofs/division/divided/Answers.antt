@@ -3,13 +3,12 @@
 use borrow.Author.Rules.{rules}
 use mathlib.Core.Path.{◌≡◌, ap, ap₂, ◌∙◌}
 use mathlib.Core.List.{List}
-use Prim.Native.Nat.{ℕ, ◌-◌, ◌/◌, ◌%◌, ◌≤◌}
+use Prim.Native.Nat.{ℕ, ◌/◌, ◌%◌}
 use native.Mathlib.Omega.{arith}
-use lib.ListN.{length, take, get_or}
-use lib.Seq.{take_all}
+use lib.ListN.{get_or}
 use Rattle.gf256.specs.Field.{◌⊕◌}
 use Rattle.rs.specs.Polynomial.{scale}
-use Rattle.rs.specs.Codeword.{divisor_bytes, parity_of}
+use Rattle.rs.specs.Codeword.{divisor_bytes}
 use Rattle.rs.specs.Packed.{pack, turn}
 use Rattle.rs.proofs.Laws.Packed.{divide-none, divide-more, look_up}
 use Rattle.rs.proofs.division.divided.Goals as goal

@@ -1,11 +1,7 @@
 -- `rs::division::extend` meets its contract: the first i entries stand again.
 -- Assumes nothing.
-use borrow.Author.Rules.{rules}
-use mathlib.Core.Path.{◌≡◌}
 use Prim.Native.Nat.{◌-◌, ◌≤◌}
-use native.Mathlib.Omega.{arith}
 use Rattle.rs.specs.Packed.{Extended}
-use Rattle.rs.proofs.Laws.Packed.{extend-none, extend-more}
 use Rattle.rs.proofs.division.extend.Given as goal
 
 abbrev pub invariant-loop-i : goal.invariant-loop-i

@@ -1,13 +1,12 @@
 -- `rs::division::multiples` meets its contract: after k turns the multiples below 2^k stand in the table.
 -- Assumes nothing.
 use borrow.Author.Rules.{rules}
-use Prim.Native.Nat.{ℕ, ◌-◌, ◌≤◌}
-use native.Mathlib.Omega.{arith}
+use Prim.Native.Nat.{ℕ}
 use lib.ListN.{get_or}
 use mir.Syntax.{w8}
 use mir.Val.{Fits}
 use Rattle.basics.proofs.Laws.Below.{at-below}
-use Rattle.rs.proofs.Laws.Packed.{Filling, fill_none, fill_more, fill-size, fill-all}
+use Rattle.rs.proofs.Laws.Packed.{fill_none, fill_more}
 use Rattle.rs.proofs.division.multiples.Goals as goal
 
 pub loop-k-init : goal.loop-k-init

@@ -1,13 +1,7 @@
 -- `rs::division::multiples` meets its contract: after k turns the multiples below 2^k stand in the table.
 -- Assumes nothing.
-use borrow.Author.Rules.{rules}
-use Prim.Native.Nat.{ℕ, ◌-◌, ◌≤◌}
-use native.Mathlib.Omega.{arith}
-use lib.ListN.{get_or}
-use mir.Syntax.{w8}
-use mir.Val.{Fits}
-use Rattle.basics.proofs.Laws.Below.{at-below}
-use Rattle.rs.proofs.Laws.Packed.{Filling, fill_none, fill_more, fill-size, fill-all}
+use Prim.Native.Nat.{◌-◌}
+use Rattle.rs.proofs.Laws.Packed.{Filling}
 use Rattle.rs.proofs.division.multiples.Given as goal
 
 abbrev pub invariant-loop-k : goal.invariant-loop-k

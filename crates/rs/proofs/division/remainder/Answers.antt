@@ -1,6 +1,5 @@
 -- `rs::division::remainder` meets its contract: the numbers of the parity and of the last six bytes add as the lists do.
 -- Assumes nothing.
-use borrow.Author.Rules.{rules}
 use mathlib.Core.Path.{ap₂, ◌∙◌}
 use native.Mathlib.Omega.{arith}
 use Rattle.gf256.specs.Field.{◌⊕◌}

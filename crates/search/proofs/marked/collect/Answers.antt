@@ -4,8 +4,7 @@ use mathlib.Core.Path.{refl, sym, ◌∙◌, subst₂}
 use mathlib.Core.List.{List}
 use Prim.Native.Nat.{ℕ, ◌+◌, ◌-◌, ◌<◌}
 use native.Mathlib.Omega.{arith}
-use borrow.Author.Rules.{rules}
-use Rattle.search.proofs.Laws.Flags.{Collecting, collecting-none, collecting-same, collecting-more, collecting-many, collecting-all}
+use Rattle.search.proofs.Laws.Flags.{Collecting, collecting-same, collecting-more, collecting-many, collecting-all}
 use Rattle.search.proofs.marked.collect.Goals as goal
 use Rattle.search.proofs.marked.collect.Goals.{then-flags-i-ne0, then-count-lt6, else-count-lt6, else-flags-i-ne0}
 

@@ -1,6 +1,5 @@
 -- `search::marked::find_marked` meets its contract.
 -- Assumes nothing.
-use native.Mathlib.Omega.{arith}
 use borrow.Author.Rules.{rules}
 use Rattle.search.proofs.Laws.Solved.{solved-marked}
 use Rattle.search.proofs.marked.find_marked.Goals as goal

@@ -2,11 +2,10 @@
 -- Assumes nothing.
 use mathlib.Core.Path.{◌≡◌, sym, ◌∙◌}
 use mathlib.Core.List.{List, map}
-use Prim.Native.Nat.{ℕ, ◌-◌}
+use Prim.Native.Nat.{ℕ}
 use native.Mathlib.Omega.{arith}
-use borrow.Author.Rules.{rules}
 use lib.ListN.{length}
-use Rattle.basics.proofs.Laws.Parts.{Filling, filling-none, filling-more, filling-all}
+use Rattle.basics.proofs.Laws.Parts.{filling-more}
 use Rattle.search.specs.SearchMarked.{flag_of}
 use Rattle.search.proofs.Laws.Flags.{flags-length, flags-at}
 use Rattle.search.proofs.marked.flags.Goals as goal

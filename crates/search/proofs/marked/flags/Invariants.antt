@@ -1,14 +1,10 @@
 -- `search::marked::flags` meets its contract. The loop's invariant: the first `i` places are filled. The measure is what is left of the length.
 -- Assumes nothing.
-use mathlib.Core.Path.{◌≡◌, sym, ◌∙◌}
-use mathlib.Core.List.{List, map}
-use Prim.Native.Nat.{ℕ, ◌-◌}
-use native.Mathlib.Omega.{arith}
-use borrow.Author.Rules.{rules}
+use mathlib.Core.List.{map}
+use Prim.Native.Nat.{◌-◌}
 use lib.ListN.{length}
-use Rattle.basics.proofs.Laws.Parts.{Filling, filling-none, filling-more, filling-all}
+use Rattle.basics.proofs.Laws.Parts.{Filling}
 use Rattle.search.specs.SearchMarked.{flag_of}
-use Rattle.search.proofs.Laws.Flags.{flags-length, flags-at}
 use Rattle.search.proofs.marked.flags.Given as goal
 
 abbrev pub invariant-loop-i : goal.invariant-loop-i

@@ -2,11 +2,9 @@
 -- Assumes nothing.
 use mathlib.Core.Path.{◌≡◌, sym, ap, ◌∙◌}
 use mathlib.Core.Bool.{Bool, true, false, not, ◌&&◌}
-use Prim.Native.Nat.{ℕ, ◌≤◌}
-use native.Mathlib.Omega.{arith}
-use borrow.Author.Rules.{rules}
+use Prim.Native.Nat.{ℕ}
 use lib.Dec.{leb, eqb}
-use Rattle.search.proofs.Laws.Located.{marked-few, at-two, at_one, at_none}
+use Rattle.search.proofs.Laws.Located.{at-two, at_one, at_none}
 use Rattle.search.proofs.marked.located.Goals as goal
 
 -- the test for two errors, by what the determinant is

@@ -3,10 +3,8 @@
 use mathlib.Core.Path.{ap, ◌∙◌, subst}
 use mathlib.Core.Bool.{Bool}
 use mathlib.Core.List.{List}
-use borrow.Author.Rules.{rules}
-use lib.ListN.{length}
 use Rattle.search.specs.SearchMarked.{marks_by, MarksOf}
-use Rattle.search.proofs.Laws.Flags.{flags-length, flags-confess}
+use Rattle.search.proofs.Laws.Flags.{flags-confess}
 use Rattle.search.proofs.marked.marks_of.Goals as goal
 
 pub returns : goal.returns

@@ -2,8 +2,7 @@
 -- Assumes nothing.
 use mathlib.Core.Path.{subst}
 use Rattle.search.specs.Search.{Held}
-use Rattle.search.proofs.Laws.Held.{solved-found, solved-last}
-use borrow.Author.Rules.{rules}
+use Rattle.search.proofs.Laws.Held.{solved-last}
 use Rattle.search.proofs.solver.find_errors.Goals as goal
 
 pub returns : goal.returns

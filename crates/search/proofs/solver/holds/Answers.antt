@@ -3,9 +3,8 @@
 use borrow.Author.Rules.{rules}
 use mir.Val.{Fits}
 use mir.Syntax.{w8}
-use Prim.Native.Nat.{◌-◌}
 use native.Mathlib.Omega.{arith}
-use Rattle.search.proofs.Laws.Held.{Holding, holding-none, holding-more, held-false, held-true}
+use Rattle.search.proofs.Laws.Held.{holding-none, holding-more, held-false}
 use Rattle.search.proofs.solver.holds.Goals as goal
 
 pub loop-j-init : goal.loop-j-init

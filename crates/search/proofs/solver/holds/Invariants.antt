@@ -1,11 +1,7 @@
 -- `search::solver::holds` meets its contract: a sum at a time.
 -- Assumes nothing.
-use borrow.Author.Rules.{rules}
-use mir.Val.{Fits}
-use mir.Syntax.{w8}
 use Prim.Native.Nat.{◌-◌}
-use native.Mathlib.Omega.{arith}
-use Rattle.search.proofs.Laws.Held.{Holding, holding-none, holding-more, held-false, held-true}
+use Rattle.search.proofs.Laws.Held.{Holding}
 use Rattle.search.proofs.solver.holds.Given as goal
 
 abbrev pub invariant-loop-j : goal.invariant-loop-j

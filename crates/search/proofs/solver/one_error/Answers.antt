@@ -25,8 +25,8 @@ returns-then-k-ge254 c = not-one _ _ c.no_errors.ensures
 
 pub returns : goal.returns
 returns c = record {
-      placed = record { first = search rules; second = search rules; third = search rules };
-      finds = λ k y hk py hy E.
-          errors-equal (c.log_in-k.ensures.0 ∙ found c.args.logs.now _ c.args.s k y hk py hy E c.requires.logs c.divided.ensures)
-          (value-one k y _ py hy E) refl refl refl refl;
-    }
+  placed = record { first = search rules; second = search rules; third = search rules };
+  finds = λ k y hk py hy E.
+      errors-equal (c.log_in-k.ensures.0 ∙ found c.args.logs.now _ c.args.s k y hk py hy E c.requires.logs c.divided.ensures)
+      (value-one k y _ py hy E) refl refl refl refl;
+}

@@ -1,7 +1,5 @@
 -- `search::solver::steps` meets its contract: a sum that fails to go on shows that not all do.
 -- Assumes nothing.
-use borrow.Author.Rules.{rules}
-use mathlib.Core.Path.{refl, sym, ◌∙◌}
 use Prim.Native.Nat.{◌≤◌, ◌-◌}
 use Rattle.search.proofs.solver.steps.Given as goal
 

@@ -3,7 +3,6 @@
 use Rattle.gf256.specs.Field.{◌⊕◌, ◌⊗◌, pow, by_bits, double}
 use Rattle.search.specs.Search.{sums_of}
 use Rattle.search.proofs.Laws.Moment.{six-equal}
-use borrow.Author.Rules.{rules}
 use Rattle.search.proofs.solver.sums.Goals as goal
 
 pub returns : goal.returns

@@ -1,15 +1,8 @@
 -- `search::solver::top_root` meets its contract: no place above k is a root.
 -- Assumes nothing.
-use borrow.Author.Rules.{rules}
-use mir.Val.{Fits}
-use mir.Syntax.{w8}
-use mathlib.Core.List.{List}
-use mathlib.Core.Logic.{⊎_elim}
-use mathlib.Core.Path.{◌≡◌, sym, ap, ◌∙◌}
-use Prim.Native.Nat.{ℕ, ◌≤◌, ◌<◌, ◌-◌}
-use native.Mathlib.Nat.{eq-or-lt_of_le}
-use native.Mathlib.Omega.{arith}
-use Rattle.search.proofs.Laws.Root.{scanned, top-found, top-none}
+use mathlib.Core.Path.{◌≡◌}
+use Prim.Native.Nat.{ℕ, ◌≤◌, ◌<◌}
+use Rattle.search.proofs.Laws.Root.{scanned}
 use Rattle.search.proofs.solver.top_root.Given as goal
 
 abbrev pub invariant-loop-k : goal.invariant-loop-k

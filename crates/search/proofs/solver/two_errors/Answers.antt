@@ -2,7 +2,6 @@
 -- Assumes nothing.
 use mathlib.Core.Path.{refl, sym, ◌∙◌}
 use native.Mathlib.Omega.{arith}
-use borrow.Author.Tests.{not-true}
 use Rattle.basics.proofs.Laws.Test.{never}
 use Rattle.search.proofs.Laws.Errors.{errors-equal, not-two}
 use Rattle.search.proofs.Laws.Two.{steps-two, top-two, other-two, log-two, value-two, left-two}

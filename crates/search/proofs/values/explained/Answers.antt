@@ -3,9 +3,9 @@
 use borrow.Author.Rules.{rules}
 use mir.Val.{Fits}
 use mir.Syntax.{w8}
-use Prim.Native.Nat.{ℕ, ◌-◌}
+use Prim.Native.Nat.{ℕ}
 use lib.ListN.{get_or}
-use Rattle.search.proofs.Laws.Values.{Explaining, explaining-none, explaining-more, held-false, held-true}
+use Rattle.search.proofs.Laws.Values.{explaining-none, explaining-more, held-false}
 use Rattle.search.proofs.values.explained.Goals as goal
 
 pub loop-j-init : goal.loop-j-init

@@ -1,11 +1,7 @@
 -- `search::values::explained` meets its contract: a sum at a time.
 -- Assumes nothing.
-use borrow.Author.Rules.{rules}
-use mir.Val.{Fits}
-use mir.Syntax.{w8}
-use Prim.Native.Nat.{ℕ, ◌-◌}
-use lib.ListN.{get_or}
-use Rattle.search.proofs.Laws.Values.{Explaining, explaining-none, explaining-more, held-false, held-true}
+use Prim.Native.Nat.{◌-◌}
+use Rattle.search.proofs.Laws.Values.{Explaining}
 use Rattle.search.proofs.values.explained.Given as goal
 
 abbrev pub invariant-loop-j : goal.invariant-loop-j

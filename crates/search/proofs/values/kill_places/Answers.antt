@@ -1,9 +1,8 @@
 -- `search::values::kill_places` meets its contract: a place at a time.
 -- Assumes nothing.
 use borrow.Author.Rules.{rules}
-use Prim.Native.Nat.{◌-◌}
 use native.Mathlib.Omega.{arith}
-use Rattle.search.proofs.Laws.Values.{Killing, killing-none, killing-more, killing-all}
+use Rattle.search.proofs.Laws.Values.{killing-none, killing-more}
 use Rattle.search.proofs.values.kill_places.Goals as goal
 
 pub loop-i-init : goal.loop-i-init

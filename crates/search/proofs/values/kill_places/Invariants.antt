@@ -1,9 +1,7 @@
 -- `search::values::kill_places` meets its contract: a place at a time.
 -- Assumes nothing.
-use borrow.Author.Rules.{rules}
 use Prim.Native.Nat.{◌-◌}
-use native.Mathlib.Omega.{arith}
-use Rattle.search.proofs.Laws.Values.{Killing, killing-none, killing-more, killing-all}
+use Rattle.search.proofs.Laws.Values.{Killing}
 use Rattle.search.proofs.values.kill_places.Given as goal
 
 abbrev pub invariant-loop-i : goal.invariant-loop-i

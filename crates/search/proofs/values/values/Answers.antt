@@ -1,11 +1,10 @@
 -- `search::values::values` meets its contract: from the last place to the first.
 -- Assumes nothing.
 use borrow.Author.Rules.{rules}
-use mathlib.Core.List.{List}
 use mathlib.Core.Path.{◌≡◌, subst}
-use Prim.Native.Nat.{ℕ, suc, ◌≤◌, ◌-◌}
+use Prim.Native.Nat.{suc, ◌-◌}
 use native.Mathlib.Omega.{arith}
-use Rattle.search.proofs.Laws.Values.{Noted, Valued, valued-none, valued-more, valued-all}
+use Rattle.search.proofs.Laws.Values.{Valued, valued-none, valued-more, valued-all}
 use Rattle.search.proofs.values.values.Goals as goal
 
 pub loop-i-init : goal.loop-i-init

@@ -1,11 +1,8 @@
 -- `search::values::values` meets its contract: from the last place to the first.
 -- Assumes nothing.
-use borrow.Author.Rules.{rules}
 use mathlib.Core.List.{List}
-use mathlib.Core.Path.{◌≡◌, subst}
-use Prim.Native.Nat.{ℕ, suc, ◌≤◌, ◌-◌}
-use native.Mathlib.Omega.{arith}
-use Rattle.search.proofs.Laws.Values.{Noted, Valued, valued-none, valued-more, valued-all}
+use Prim.Native.Nat.{ℕ, ◌≤◌}
+use Rattle.search.proofs.Laws.Values.{Noted, Valued}
 use Rattle.search.proofs.values.values.Given as goal
 
 abbrev pub invariant-loop-i : goal.invariant-loop-i

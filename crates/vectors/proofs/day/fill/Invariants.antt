@@ -1,6 +1,6 @@
 -- `vectors::day::fill` ends, and stays within its bytes: their number does not change. The measure is what is left of it.
 -- Assumes nothing.
-use Rattle.std.proofs.Common.{◌≡◌, ◌-◌, ◌≤◌, length, rules}
+use Rattle.std.proofs.Common.{◌≡◌, ◌-◌, ◌≤◌, length}
 use Rattle.vectors.proofs.day.fill.Given as goal
 
 abbrev pub invariant-loop-i : goal.invariant-loop-i

@@ -1,6 +1,6 @@
 -- `vectors::day::run` ends, and stays within its arrays: the turns are counted.
 -- Assumes nothing.
-use Rattle.std.proofs.Common.{◌≡◌, ◌-◌, ◌≤◌, length, rules}
+use Rattle.std.proofs.Common.{◌-◌, ◌≤◌}
 use Rattle.vectors.proofs.day.run.Given as goal
 
 abbrev pub invariant-loop-n : goal.invariant-loop-n

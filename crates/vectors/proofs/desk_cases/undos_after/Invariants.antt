@@ -1,6 +1,6 @@
 -- `vectors::desk_cases::undos_after` ends, and stays within its arrays: the turns are counted.
 -- Assumes nothing.
-use Rattle.std.proofs.Common.{◌≡◌, ◌-◌, ◌≤◌, length, rules}
+use Rattle.std.proofs.Common.{◌-◌, ◌≤◌}
 use Rattle.vectors.proofs.desk_cases.undos_after.Given as goal
 
 abbrev pub invariant-loop-n : goal.invariant-loop-n

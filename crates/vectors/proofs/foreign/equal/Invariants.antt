@@ -1,6 +1,6 @@
 -- `vectors::foreign::equal` ends: the turns are counted.
 -- Assumes nothing.
-use Rattle.std.proofs.Common.{◌-◌, ◌≤◌, rules}
+use Rattle.std.proofs.Common.{◌-◌, ◌≤◌}
 use Rattle.vectors.proofs.foreign.equal.Given as goal
 
 abbrev pub invariant-loop-n : goal.invariant-loop-n

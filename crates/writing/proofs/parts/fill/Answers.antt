@@ -1,7 +1,6 @@
 -- `writing::parts::fill` meets its contract: three parts laid over the buffer, and the checksum of what they are.
 -- Assumes nothing.
 use borrow.Author.Rules.{rules}
-use lib.ListN.{length-set}
 use Rattle.anc.proofs.Laws.Words.{sound-filled}
 use Rattle.writing.proofs.Laws.Writing.{packet-filled}
 use Rattle.writing.proofs.parts.fill.Goals as goal

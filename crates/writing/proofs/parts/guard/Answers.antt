@@ -2,7 +2,7 @@
 -- Assumes nothing.
 use mathlib.Core.Path.{ap, ◌∙◌}
 use borrow.Author.Rules.{rules}
-use lib.ListN.{replicate, length-set}
+use lib.ListN.{replicate}
 use Rattle.anc.specs.Words.{sound_words}
 use Rattle.anc.proofs.Laws.Words.{sound-filled}
 use Rattle.writing.proofs.Laws.Writing.{stored}
