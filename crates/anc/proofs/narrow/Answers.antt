@@ -1,5 +1,4 @@
--- `anc::narrow` meets its contract. The loop's invariant: of the words passed, the largest says whether each fits. The measure is what is
--- left of the length.
+-- `anc::narrow` meets its contract.
 -- Assumes nothing.
 use Rattle.std.proofs.Common.{◌≡◌, ℕ, ◌&&◌, List, get_or, ap, ◌∙◌, arith}
 use mathlib.Core.Bool.{and_comm}
@@ -11,7 +10,8 @@ use Rattle.anc.proofs.narrow.Goals as goal
 use Rattle.anc.proofs.narrow.Goals.{then-word-top, else-word-top}
 
 pub loop-i-preserved : goal.loop-i-preserved
-loop-i-preserved c = let l = c.loop-i in
+loop-i-preserved c =
+    let l = c.loop-i in
     let ws : List ℕ = c.args.words.now in
     let word : ℕ = get_or ws l.i 0 in
     let top : fits c.if-word-top.top ≡ (fits l.top && fits word) =
@@ -23,5 +23,6 @@ loop-i-preserved c = let l = c.loop-i in
 
 pub returns : goal.returns
 unfolding narrow
-returns c = let l = c.loop-i in
+returns c =
+    let l = c.loop-i in
     passing-all fits c.args.words.now l.i (fits l.top) l.invariant (omega arith)

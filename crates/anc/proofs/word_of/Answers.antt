@@ -7,11 +7,13 @@ use Rattle.anc.proofs.Laws.Word.{word_sum}
 use Rattle.anc.proofs.word_of.Goals as goal
 
 pub overflow_sub-result : goal.overflow_sub-result
-overflow_sub-result c = let p : c.parity.result < 2 = rw c.parity.ensures (parity-lt _) in
+overflow_sub-result c =
+    let p : c.parity.result < 2 = rw c.parity.ensures (parity-lt _) in
     omega arith
 
 pub returns : goal.returns
-returns c = let b : ℕ = c.args.byte in
+returns c =
+    let b : ℕ = c.args.byte in
     let f : Fits w8 b = search rules in
     let e : c.parity.result ≡ parity_of b = c.parity.ensures in
     omega (arith, parity-lt b, word_sum b f.fits)

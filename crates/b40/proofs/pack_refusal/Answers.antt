@@ -13,7 +13,8 @@ use Rattle.b40.proofs.pack_refusal.Goals as goal
 
 pub returns : goal.returns
 unfolding pack_refusal
-returns c = let a = c.args in
+returns c =
+    let a = c.args in
     let ws : List ℕ = a.words.now in
     let c1 = chained_more {test = eqb (length ws) 262} (refusal_plain Length) chained-none c.then-length.ensures refl in
     let c2 = chained_more (refusal_plain Wide) c1 c.then-wide.ensures c.narrow.ensures in

@@ -7,5 +7,6 @@ use Rattle.answers.specs.Answers.{answer_by}
 use Rattle.capi.proofs.ay_pack.Goals as goal
 
 pub returns : goal.returns
-returns c = let told = c.pack-written.ensures in
+returns c =
+    let told = c.pack-written.ensures in
     (c.written.ensures ∙ ap (λ a. answer_by (refusal_in a)) told.0 ∙ ap answer_by (refusal-said _ _ _ _), told.1)

@@ -11,5 +11,6 @@ pub loop-k-init : goal.loop-k-init
 loop-k-init c = (search rules, turn-none _)
 
 pub returns : goal.returns
-returns c = let e : c.loop-k.k ≡ 255 = omega arith in
+returns c =
+    let e : c.loop-k.k ≡ 255 = omega arith in
     turn-all _ _ c.powers-table.ensures (subst (λ (k : ℕ). Turning c.powers-table.result k c.loop-k.turns) e c.loop-k.invariant.1)

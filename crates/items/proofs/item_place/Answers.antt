@@ -15,6 +15,7 @@ unfolding place_of
 returns-then-number-gt13 c = rw (c.no_item-then-number-gt13.ensures, row-none _ c.if-number-gt13.true)
 
 pub returns : goal.returns
-returns c = let n = c.args.number in
+returns c =
+    let n = c.args.number in
     let h : n < 14 = omega arith in
     λ i. record { checked = place-known n (omega arith) (omega arith) i; first = first-at n h i; length = length_at n h i }

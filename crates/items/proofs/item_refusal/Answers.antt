@@ -9,11 +9,13 @@ use Rattle.items.proofs.Laws.Item.{place-lt, place-refused, item-checks}
 use Rattle.items.proofs.item_refusal.Goals as goal
 
 pub returns-in-Refused : goal.returns-in-Refused
-returns-in-Refused c = let a = c.args in
+returns-in-Refused c =
+    let a = c.args in
     place-refused a.number a.bytes.now c.item_place-place.result _ c.item_place-place.ensures c.in-Refused.is
 
 pub returns-then-bytes-length : goal.returns-then-bytes-length
-returns-then-bytes-length c = let a = c.args in
+returns-then-bytes-length c =
+    let a = c.args in
     rw (
       item-checks a.number a.bytes.now c.item_place-place.result c.item_place-place.ensures c.in_default.is,
       ne_eqb _ _ c.if-bytes-length.true,
@@ -21,11 +23,13 @@ returns-then-bytes-length c = let a = c.args in
     )
 
 pub overflow_cast-place : goal.overflow_cast-place
-overflow_cast-place c = let e = ap (λ (q : ItemPlace). q.first) c.item_place-place.ensures in
+overflow_cast-place c =
+    let e = ap (λ (q : ItemPlace). q.first) c.item_place-place.ensures in
     omega (arith, place-lt c.args.number)
 
 pub returns-then-not-rule : goal.returns-then-not-rule
-returns-then-not-rule c = let a = c.args in
+returns-then-not-rule c =
+    let a = c.args in
     rw (
       item-checks a.number a.bytes.now c.item_place-place.result c.item_place-place.ensures c.in_default.is,
       eq-eqb _ _ c.if-bytes-length.false,
@@ -35,7 +39,8 @@ returns-then-not-rule c = let a = c.args in
     )
 
 pub returns : goal.returns
-returns c = let a = c.args in
+returns c =
+    let a = c.args in
     rw (
       item-checks a.number a.bytes.now c.item_place-place.result c.item_place-place.ensures c.in_default.is,
       eq-eqb _ _ c.if-bytes-length.false,

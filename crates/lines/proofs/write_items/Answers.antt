@@ -1,5 +1,4 @@
--- `lines::write_items` meets its contract. The loop's invariant: what is to be written is the rest of the items, on what the page is by now. The
--- measure is how many are left.
+-- `lines::write_items` meets its contract.
 -- Assumes nothing.
 use mathlib.Core.Path.{sym, ap, ◌∙◌}
 use Prim.Native.Nat.{◌+◌, ◌-◌}
@@ -12,10 +11,12 @@ use Rattle.lines.proofs.Laws.Shown.{items-step, items-end}
 use Rattle.lines.proofs.write_items.Goals as goal
 
 pub loop-number-preserved : goal.loop-number-preserved
-loop-number-preserved c = let l = c.loop-number in
+loop-number-preserved c =
+    let l = c.loop-number in
     let rec = c.args.rec.now in
     (omega arith, omega arith, l.invariant.2 ∙ items-step l.out rec l.number l.invariant.0 (omega arith) ∙ ap (λ (p : Page). written p (item_lines (drop (l.number + 1 - 1) numbers) rec)) (sym c.write_item-next.ensures))
 
 pub returns : goal.returns
-returns c = let l = c.loop-number in
+returns c =
+    let l = c.loop-number in
     sym (l.invariant.2 ∙ items-end l.out c.args.rec.now l.number (omega arith))

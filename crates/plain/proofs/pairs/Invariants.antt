@@ -1,4 +1,4 @@
--- `plain::pairs` meets its contract; `loop` goes over the second places.
+-- `plain::pairs`: `pairs` goes over the first places, `loop-j` over the second. What each has passed was tried without success.
 -- Assumes nothing.
 use mathlib.Core.List.{[], ◌∷◌}
 use Prim.Native.Nat.{◌+◌, ◌-◌}

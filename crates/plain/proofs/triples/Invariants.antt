@@ -1,4 +1,4 @@
--- `plain::triples` meets its contract; `loop` goes over the second places, `loop2` over the third.
+-- `plain::triples`: `triples` goes over the first places, `loop-j` over the second, `loop-k` over the third. What each has passed was tried without success.
 -- Assumes nothing.
 use mathlib.Core.List.{[], ◌∷◌}
 use Prim.Native.Nat.{◌+◌, ◌-◌}

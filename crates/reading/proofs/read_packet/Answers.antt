@@ -4,12 +4,14 @@ use Rattle.reading.proofs.Laws.Answer.{answer-long, answer-room, answer-bytes, a
 use Rattle.reading.proofs.read_packet.Goals as goal
 
 pub packet-requires : goal.packet-requires
-packet-requires c = let check = c.check-checked.ensures in
+packet-requires c =
+    let check = c.check-checked.ensures in
     let told = c.in-Passed.is in
     (answer-long _ _ check.0 told, answer-room _ _ check.0 _ told (answer-bytes _ _ check.0 _ _ told check.1))
 
 pub returns-in-Passed : goal.returns-in-Passed
-returns-in-Passed c = let check = c.check-checked.ensures in
+returns-in-Passed c =
+    let check = c.check-checked.ensures in
     let told = c.in-Passed.is in
     answer-accepted _ _ check.0 _ _ told (answer-bytes _ _ check.0 _ _ told check.1) c.packet.ensures
 

@@ -22,12 +22,14 @@ module _ (ws bytes : List ℕ) (n : length bytes ≡ 254) (e : bytes ≡ guard_b
   is_read = ap record_of (ap (take 248) e ∙ data-guard ws)
 
 pub packet-requires : goal.packet-requires
-packet-requires c = let check = c.check-checked.ensures in
+packet-requires c =
+    let check = c.check-checked.ensures in
     let told = c.in-Passed.is in
     (answer-long _ _ check.0 told, answer-room _ _ check.0 _ told (answer-bytes _ _ check.0 _ _ told check.1))
 
 pub returns-in-Passed-wrote : goal.returns-in-Passed-wrote
-returns-in-Passed-wrote c = let ws = c.args.words.now in
+returns-in-Passed-wrote c =
+    let ws = c.args.words.now in
     let check = c.check-checked.ensures in
     let told = c.in-Passed.is in
     let bytes = answer-bytes ws _ check.0 _ _ told check.1 in
@@ -37,7 +39,8 @@ returns-in-Passed-wrote c = let ws = c.args.words.now in
     )
 
 pub returns-in-Refused-wrote : goal.returns-in-Refused-wrote
-returns-in-Refused-wrote c = let ws = c.args.words.now in
+returns-in-Refused-wrote c =
+    let ws = c.args.words.now in
     let check = c.check-checked.ensures in
     let told = c.in-Passed.is in
     let bytes = answer-bytes ws _ check.0 _ _ told check.1 in
@@ -47,7 +50,8 @@ returns-in-Refused-wrote c = let ws = c.args.words.now in
     )
 
 pub returns-in-Refused : goal.returns-in-Refused
-returns-in-Refused c = let out = c.args.out.now in
+returns-in-Refused c =
+    let out = c.args.out.now in
     let check = c.check-checked.ensures in
     let told = c.in-Refused.is in
     (into-refused _ _ check.0 out _ told, left-as-it-was _ _ check.0 out _ told)

@@ -9,7 +9,8 @@ use Rattle.record.proofs.Laws.Checks.{six-checks}
 use Rattle.record.proofs.first_broken.Goals as goal
 
 pub returns : goal.returns
-returns c = let c1 = chained_more (refusal_at Station 1) chained-none c.then-station.ensures c.station.ensures in
+returns c =
+    let c1 = chained_more (refusal_at Station 1) chained-none c.then-station.ensures c.station.ensures in
     let c2 = chained_more (refusal_at Time 9) c1 c.then-time.ensures (c.time-is_time.ensures ∙ ap time_rule c.nine.ensures) in
     let c3 = chained_more (refusal_at Picture 18) c2 c.then-current.ensures (c.picture-is_current.ensures ∙ ap picture_rule c.four.ensures) in
     let c4 = chained_more (refusal_at Picture 22) c3 c.then-next.ensures (c.picture-is_next.ensures ∙ ap picture_rule c.four-2.ensures) in

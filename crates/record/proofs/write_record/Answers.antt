@@ -7,15 +7,18 @@ use Rattle.record.proofs.Laws.Record.{unwritten-bytes, unwritten-room, record-fi
 use Rattle.record.proofs.write_record.Goals as goal
 
 pub returns-then-bytes-ne248 : goal.returns-then-bytes-ne248
-returns-then-bytes-ne248 c = let a = c.args in
+returns-then-bytes-ne248 c =
+    let a = c.args in
     rw c.plain.ensures (unwritten-bytes a.bytes.now a.out.now c.if-bytes-ne248.true)
 
 pub returns-then-out-ne248 : goal.returns-then-out-ne248
-returns-then-out-ne248 c = let a = c.args in
+returns-then-out-ne248 c =
+    let a = c.args in
     rw c.plain-then-out-ne248.ensures (unwritten-room a.bytes.now a.out.now c.if-bytes-ne248.false c.if-out-ne248.true)
 
 pub returns : goal.returns
-returns c = let a = c.args in
+returns c =
+    let a = c.args in
     let h = c.if-bytes-ne248.false in
     let o = c.if-out-ne248.false in (
       sym (ap checked_of (record-fits a.bytes.now a.out.now h o)),

@@ -1,5 +1,4 @@
--- `repair::count_fixed` meets its contract. The loop's invariant: the count is that of the first `i` places. The measure is
--- what is left of the length.
+-- `repair::count_fixed` meets its contract.
 -- Assumes nothing.
 use mathlib.Core.Path.{◌≡◌, sym, ap, ◌∙◌}
 use mathlib.Core.List.{List}
@@ -17,11 +16,13 @@ pub returns-then-words-ne254 : goal.returns-then-words-ne254
 returns-then-words-ne254 c = let a = c.args in rw c.plain.ensures (few_words a.words.now a.bytes.now c.if-words-ne254.true)
 
 pub returns-then-bytes-ne254 : goal.returns-then-bytes-ne254
-returns-then-bytes-ne254 c = let a = c.args in
+returns-then-bytes-ne254 c =
+    let a = c.args in
     rw c.plain-then-bytes-ne254.ensures (few_bytes a.words.now a.bytes.now c.if-words-ne254.false c.if-bytes-ne254.true)
 
 pub loop-i-preserved : goal.loop-i-preserved
-loop-i-preserved c = let l = c.loop-i in
+loop-i-preserved c =
+    let l = c.loop-i in
     let a = c.args in
     let ws : List ℕ = a.words.now in
     let bs : List ℕ = a.bytes.now in
@@ -36,7 +37,8 @@ loop-i-preserved c = let l = c.loop-i in
     ]
 
 pub returns : goal.returns
-returns c = let l = c.loop-i in
+returns c =
+    let l = c.loop-i in
     let a = c.args in
     let ws : List ℕ = a.words.now in
     let bs : List ℕ = a.bytes.now in

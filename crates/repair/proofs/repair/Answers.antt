@@ -18,22 +18,26 @@ use Rattle.repair.proofs.Laws.Repair.{repaired-length, wrong_size, too_wide, bey
 use Rattle.repair.proofs.repair.Goals as goal
 
 pub returns-then-words-ne254 : goal.returns-then-words-ne254
-returns-then-words-ne254 c = let A = wrong_size c.args.words.now c.args.out.now c.if-words-ne254.true in
+returns-then-words-ne254 c =
+    let A = wrong_size c.args.words.now c.args.out.now c.if-words-ne254.true in
     (ap Refused c.plain.ensures ∙ A.right, A.kept)
 
 pub returns-then-not-narrow : goal.returns-then-not-narrow
-returns-then-not-narrow c = let A = too_wide c.args.words.now c.args.out.now c.if-words-ne254.false (sym c.narrow.ensures ∙ c.if-not-narrow.true) in
+returns-then-not-narrow c =
+    let A = too_wide c.args.words.now c.args.out.now c.if-words-ne254.false (sym c.narrow.ensures ∙ c.if-not-narrow.true) in
     (ap Refused c.plain-then-not-narrow.ensures ∙ A.right, A.kept)
 
 pub returns-in-Refused : goal.returns-in-Refused
-returns-in-Refused c = let ws = c.args.words.now in
+returns-in-Refused c =
+    let ws = c.args.words.now in
     let low = low-filled _ ws _ c.low_bytes.ensures.1 c.if-words-ne254.false in
     let n : narrow ws ≡ true = sym c.narrow.ensures ∙ c.if-not-narrow.false in
     let A = beyond-repair ws c.args.out.now c.repair_marked-near.result c.if-words-ne254.false (c.repair_marked-near.ensures.0 ∙ ap (λ (l : List ℕ). checked_of (marked_refusal ws l)) low) _ n c.in-Refused.is in
     (A.right, A.kept)
 
 pub returns-then-out-ne254 : goal.returns-then-out-ne254
-returns-then-out-ne254 c = let ws = c.args.words.now in
+returns-then-out-ne254 c =
+    let ws = c.args.words.now in
     let old = c.args.out.now in
     let low = low-filled _ ws _ c.low_bytes.ensures.1 c.if-words-ne254.false in
     let n : narrow ws ≡ true = sym c.narrow.ensures ∙ c.if-not-narrow.false in
@@ -43,7 +47,8 @@ returns-then-out-ne254 c = let ws = c.args.words.now in
 
 pub returns : goal.returns
 unfolding repaired rewritten fixed_of
-returns c = let ws = c.args.words.now in
+returns c =
+    let ws = c.args.words.now in
     let old = c.args.out.now in
     let long = c.if-words-ne254.false in
     let room = c.if-out-ne254.false in

@@ -11,13 +11,15 @@ pub returns-then-block-ne254 : goal.returns-then-block-ne254
 returns-then-block-ne254 c = ap Refused c.plain.ensures ∙ sym (short-refused c.args.block.now c.if-block-ne254.true)
 
 pub returns-then-remainder-eq0 : goal.returns-then-remainder-eq0
-returns-then-remainder-eq0 c = let l = c.args.block.now in
+returns-then-remainder-eq0 c =
+    let l = c.args.block.now in
     sym
     (nothing-yes l c.if-block-ne254.false (at-below 256 l (λ i. (c.type_inv.block i).fits))
     (omega (arith, c.remainder.ensures, c.if-remainder-eq0.true)))
 
 pub returns : goal.returns
-returns c = let l = c.args.block.now in
+returns c =
+    let l = c.args.block.now in
     sym
     (something-no l c.if-block-ne254.false (at-below 256 l (λ i. (c.type_inv.block i).fits))
     (λ z. omega (arith, c.remainder.ensures, c.if-remainder-eq0.false, z)))

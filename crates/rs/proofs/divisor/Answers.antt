@@ -19,7 +19,8 @@ loop-j-init c = (refl, omega arith)
 
 pub loop-j-preserved : goal.loop-j-preserved
 unfolding turns
-loop-j-preserved c = let loop = c.loop-j in
+loop-j-preserved c =
+    let loop = c.loop-j in
     let j : ℕ = loop.j in
     let n : ℕ = end - (j + 1) in
     let one_more : suc n ≡ end - j = omega arith in
@@ -30,6 +31,7 @@ loop-j-preserved c = let loop = c.loop-j in
 
 pub returns : goal.returns
 unfolding turns
-returns c = let loop = c.loop-j in
+returns c =
+    let loop = c.loop-j in
     let none : 0 ≡ end - loop.j = omega arith in
     ap (λ (m : ℕ). turns m loop.j loop.product) none ∙ loop.invariant.0

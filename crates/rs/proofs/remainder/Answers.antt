@@ -11,7 +11,8 @@ pub returns-then-block-ne254 : goal.returns-then-block-ne254
 returns-then-block-ne254 c = rw c.plain.ensures (divided-short c.args.block.now c.if-block-ne254.true)
 
 pub returns : goal.returns
-returns c = let l = c.args.block.now in
+returns c =
+    let l = c.args.block.now in
     let long = c.if-block-ne254.false in
     divided-long l c.unpack.result long
     (c.unpack.ensures ∙ ap (unpack 6) c.remainder.ensures

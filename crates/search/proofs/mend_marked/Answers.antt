@@ -10,25 +10,29 @@ use Rattle.search.proofs.Laws.First.{first-answer, second-answer, many-marks}
 use Rattle.search.proofs.mend_marked.Goals as goal
 
 pub returns-then-f-eq0 : goal.returns-then-f-eq0
-returns-then-f-eq0 c = let marks = confessed c.args.words.now in
+returns-then-f-eq0 c =
+    let marks = confessed c.args.words.now in
     let l = c.args.block.now in
     let A = second-answer marks l (both-unmarked marks l (omega (arith, c.marks_of-marks.ensures.count, c.if-f-eq0.true))) _ _ c.mend.ensures.0 c.mend.ensures.1 in
     (A.said, A.left)
 
 pub returns-then-f-gt6 : goal.returns-then-f-gt6
-returns-then-f-gt6 c = let marks = confessed c.args.words.now in
+returns-then-f-gt6 c =
+    let marks = confessed c.args.words.now in
     let l = c.args.block.now in
     let A = second-answer marks l (many-marks marks l (omega (arith, c.marks_of-marks.ensures.count, c.if-f-gt6.true))) _ _ c.mend-then-f-gt6.ensures.0 c.mend-then-f-gt6.ensures.1 in
     (A.said, A.left)
 
 pub returns-then-mend_marks : goal.returns-then-mend_marks
-returns-then-mend_marks c = let marks = confessed c.args.words.now in
+returns-then-mend_marks c =
+    let marks = confessed c.args.words.now in
     let A = first-answer marks c.args.block.now _
     (c.mend_marks.ensures.found c.if-mend_marks.true marks (confessed-length c.args.words.now ∙ c.requires.1) c.marks_of-marks.ensures) in
     (A.said, A.left)
 
 pub returns : goal.returns
-returns c = let marks = confessed c.args.words.now in
+returns c =
+    let marks = confessed c.args.words.now in
     let l = c.args.block.now in
     let kept = c.mend_marks.ensures.kept c.if-mend_marks.false in
     let none = c.mend_marks.ensures.lost c.if-mend_marks.false marks (confessed-length c.args.words.now ∙ c.requires.1) c.marks_of-marks.ensures in

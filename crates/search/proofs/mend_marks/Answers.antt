@@ -1,5 +1,9 @@
 -- `search::mend_marks` meets its contract: what was found leads to the codeword of the first rule, and where nothing was there is none.
 -- Assumes nothing.
+use mir.Val.{Fits}
+use mir.Syntax.{w8}
+use lib.ListN.{get_or}
+use borrow.Author.Rules.{rules}
 use mathlib.Core.Path.{refl, sym}
 use Rattle.basics.proofs.Laws.Below.{at-below}
 use Rattle.basics.proofs.Laws.Test.{never}
@@ -7,7 +11,8 @@ use Rattle.search.proofs.Laws.First.{found-marked, lost-marked}
 use Rattle.search.proofs.mend_marks.Goals as goal
 
 pub returns-then-not-found : goal.returns-then-not-found
-returns-then-not-found c = let block = c.args.block.now in
+returns-then-not-found c =
+    let block = c.args.block.now in
     let bytes = at-below 256 block (λ i. (c.type_inv.block i).fits) in
     record {
       found = λ q. never (sym q);
@@ -18,8 +23,9 @@ returns-then-not-found c = let block = c.args.block.now in
     }
 
 pub returns : goal.returns
-returns c = let block = c.args.block.now in
-    let bytes = at-below 256 block (λ i. (c.slice_known-1.given i).fits) in
+returns c =
+    let block = c.args.block.now in
+    let bytes = at-below 256 block (λ i. let b : Fits w8 (get_or block i 0) = search rules in b.fits) in
     let after = c.patch_all.new.block in
     record {
       found = λ q marks em M.

@@ -1,5 +1,4 @@
--- `sequence::same` meets its contract. The loop's invariant: the lists are equally long, and the answer is that of the bytes passed. The measure is
--- what is left of the length.
+-- `sequence::same` meets its contract.
 -- Assumes nothing.
 use mathlib.Core.Path.{refl, sym, ap}
 use native.Mathlib.Omega.{arith}
@@ -11,11 +10,13 @@ pub returns-then-a-b : goal.returns-then-a-b
 returns-then-a-b c = sym (same-other _ _ (λ e. c.if-a-b.true (ap length e)))
 
 pub loop-i-preserved : goal.loop-i-preserved
-loop-i-preserved c = let l = c.loop-i in
+loop-i-preserved c =
+    let l = c.loop-i in
     let s = c.args in
     matching-more s.a.now s.b.now l.i l.ok _ l.invariant (omega arith) refl
 
 pub returns : goal.returns
-returns c = let l = c.loop-i in
+returns c =
+    let l = c.loop-i in
     let s = c.args in
     matching-all s.a.now s.b.now l.i l.ok l.invariant (omega arith)

@@ -1,5 +1,4 @@
--- `soundness::all_sound` meets its contract. The loop's invariant: the answer is that of the words passed. The measure is what is left of the
--- length.
+-- `soundness::all_sound` meets its contract.
 -- Assumes nothing.
 use mathlib.Core.Path.{sym, ap, ◌∙◌}
 use mathlib.Core.Bool.{◌&&◌}
@@ -14,11 +13,13 @@ use Rattle.anc.proofs.Laws.Word.{sound-word}
 use Rattle.soundness.proofs.all_sound.Goals as goal
 
 pub loop-i-preserved : goal.loop-i-preserved
-loop-i-preserved c = let l = c.loop-i in
+loop-i-preserved c =
+    let l = c.loop-i in
     let ws : List ℕ = c.args.words.now in
     let word : ℕ = get_or ws l.i 0 in
     passing-more is_sound ws l.i l.ok _ l.invariant (omega arith) (ap (◌&&◌ l.ok) (ap (eqb word) c.word_of.ensures ∙ sym (sound-word word)))
 
 pub returns : goal.returns
-returns c = let l = c.loop-i in
+returns c =
+    let l = c.loop-i in
     passing-all is_sound c.args.words.now l.i l.ok l.invariant (omega arith)

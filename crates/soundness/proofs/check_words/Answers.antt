@@ -10,7 +10,8 @@ pub returns-then-words-gt255 : goal.returns-then-words-gt255
 returns-then-words-gt255 c = ap Refused c.plain.ensures ∙ sym (ap checked_of (words-many c.args.words.now c.if-words-gt255.true))
 
 pub returns-then-all_sound : goal.returns-then-all_sound
-returns-then-all_sound c = let ws = c.args.words.now in
+returns-then-all_sound c =
+    let ws = c.args.words.now in
     sym (ap checked_of (words-few ws c.if-words-gt255.false ∙ sound-passed 1 ws (sym c.all_sound.ensures ∙ c.if-all_sound.true)))
 
 pub returns : goal.returns

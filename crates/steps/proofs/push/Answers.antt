@@ -1,5 +1,4 @@
--- `steps::push` meets its contract. The loop's invariant: the first places hold the steps behind them, the others what they held. The measure
--- is what is left of the depth.
+-- `steps::push` meets its contract.
 -- Assumes nothing.
 use mathlib.Core.Path.{◌≡◌}
 use native.Mathlib.Omega.{arith}
@@ -12,13 +11,15 @@ pub returns-then-at-lt-DEPTH : goal.returns-then-at-lt-DEPTH
 returns-then-at-lt-DEPTH c = let a = c.args in pushed-few _ _ a.step c.if-at-lt-DEPTH.true
 
 pub loop-i-preserved : goal.loop-i-preserved
-loop-i-preserved c = let l = c.loop-i in
+loop-i-preserved c =
+    let l = c.loop-i in
     let t = c.args.steps in
     let n : length t ≡ 32 = search rules in
     (search rules, rw l.invariant.1 (shift-more t l.i n (omega arith)))
 
 pub returns : goal.returns
-returns c = let l = c.loop-i in
+returns c =
+    let l = c.loop-i in
     let a = c.args in
     let n : length a.steps ≡ 32 = search rules in
     rw l.invariant.1 (pushed-full a.steps a.count l.i a.step n c.if-at-lt-DEPTH.false (omega arith))

@@ -7,13 +7,16 @@ use Rattle.writing.proofs.Laws.Writing.{given-size, given-index, given-passes}
 use Rattle.writing.proofs.given_refusal.Goals as goal
 
 pub returns-then-bytes-ne248 : goal.returns-then-bytes-ne248
-returns-then-bytes-ne248 c = let a = c.args in
+returns-then-bytes-ne248 c =
+    let a = c.args in
     ap Refused c.plain.ensures ∙ ap checked_of (sym (given-size a.ci a.bytes.now c.if-bytes-ne248.true))
 
 pub returns-then-ci-gt15 : goal.returns-then-ci-gt15
-returns-then-ci-gt15 c = let a = c.args in
+returns-then-ci-gt15 c =
+    let a = c.args in
     ap Refused c.plain-then-ci-gt15.ensures ∙ ap checked_of (sym (given-index a.ci a.bytes.now c.if-bytes-ne248.false c.if-ci-gt15.true))
 
 pub returns : goal.returns
-returns c = let a = c.args in
+returns c =
+    let a = c.args in
     ap checked_of (sym (given-passes a.ci a.bytes.now c.if-bytes-ne248.false c.if-ci-gt15.false))

@@ -8,5 +8,6 @@ use Rattle.b40.proofs.Laws.Window.{pair}
 use Rattle.b40.proofs.field.byte.Goals as goal
 
 pub returns : goal.returns
-returns c = let w = c.args.words.now in
+returns c =
+    let w = c.args.words.now in
     sym (pair 10 w (narrow_below w c.requires.0) c.args.k c.args.from 8 (12 - c.args.from) c.requires.1 (omega arith))

@@ -1,5 +1,4 @@
--- `b40::field::fill_bytes` meets its contract. The loop's invariant: the places of the first `i` groups of five are filled with runs of eight bits.
--- The measure is what is left of 65 groups.
+-- `b40::field::fill_bytes` meets its contract.
 -- Assumes nothing.
 use mathlib.Core.Path.{◌≡◌, refl, ap, ◌∙◌}
 use Prim.Native.Nat.{◌+◌, ◌*◌}
@@ -11,7 +10,8 @@ use Rattle.b40.proofs.Laws.Window.{placed, placed-all}
 use Rattle.b40.proofs.field.fill_bytes.Goals as goal
 
 pub loop-i-preserved : goal.loop-i-preserved
-loop-i-preserved c = let l = c.loop-i in
+loop-i-preserved c =
+    let l = c.loop-i in
     let put = placed 328 8 (bits_each 10 c.args.words.now) c.args.out.now c.requires.2 in
     let i = 5 * l.i in
     let e1 = put l.out i (i + 1) (10 * (4 * l.i) + 0) _ l.invariant.2 (omega arith) c.byte.ensures (omega arith) refl in
@@ -21,7 +21,8 @@ loop-i-preserved c = let l = c.loop-i in
     (omega arith, simp length-set l.invariant.1, put _ (i + 4) (5 * (l.i + 1)) (10 * (4 * l.i + 3) + 2) _ e4 (omega arith) c.byte-in-loop-i-4.ensures (omega arith) (omega arith))
 
 pub returns : goal.returns
-returns c = let l = c.loop-i in
+returns c =
+    let l = c.loop-i in
     let b = bits_each 10 c.args.words.now in
     let old = c.args.out.now in
     let put = placed 328 8 b old c.requires.2 in

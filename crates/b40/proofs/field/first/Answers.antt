@@ -5,5 +5,6 @@ use Rattle.b40.proofs.Laws.Places.{first-bytes}
 use Rattle.b40.proofs.field.first.Goals as goal
 
 pub returns : goal.returns
-returns c = let f = c.args.field.now in
+returns c =
+    let f = c.args.field.now in
     first-bytes f (at-below 256 f (λ i. (c.type_inv.field i).fits)) c.requires

@@ -10,6 +10,7 @@ use Rattle.b40.proofs.field.word.Goals as goal
 
 pub returns : goal.returns
 unfolding part bits_of
-returns c = let f = c.args.field.now in
+returns c =
+    let f = c.args.field.now in
     let bytes = at-below 256 f (λ i. (c.type_inv.field i).fits) in
     sym (pair 8 f bytes c.args.k c.args.from 10 (6 - c.args.from) c.requires.0 (omega arith))

@@ -1,4 +1,4 @@
--- `b40::field::write_bytes` meets its contract. The loop's invariant: the first `i` words are copied. The measure is what is left of the words.
+-- `b40::field::write_bytes` meets its contract.
 -- Assumes nothing.
 use mathlib.Core.Path.{◌≡◌, refl, sym, ap, ◌∙◌}
 use mathlib.Core.List.{List, [], ◌∷◌, ◌++◌}
@@ -21,18 +21,21 @@ made head number words all i n m e f =
     tens-built head words all (omega arith) copied ∙ ap (λ (h : ℕ). tens h words) f
 
 pub loop-i-preserved : goal.loop-i-preserved
-loop-i-preserved c = let l = c.loop-i in
+loop-i-preserved c =
+    let l = c.loop-i in
     let more = filled_more c.args.words.now (replicate 263 0x3C0) l.all l.i _ l.invariant.2 (omega arith) (omega arith) refl in
     (omega arith, simp length-set l.invariant.1, more, l.invariant.3)
 
 pub fill_bytes-requires : goal.fill_bytes-requires
-fill_bytes-requires c = let l = c.loop-i in
+fill_bytes-requires c =
+    let l = c.loop-i in
     let a = c.args in
     let e = made _ _ a.words.now l.all l.i c.requires.2 (omega arith) l.invariant.2 l.invariant.3 in
     (ap narrow e ∙ tens-narrow a.yc a.line a.offset a.words.now c.requires.1 c.requires.0, simp length-set l.invariant.1, c.requires.3)
 
 pub returns : goal.returns
-returns c = let l = c.loop-i in
+returns c =
+    let l = c.loop-i in
     let a = c.args in
     let e = made _ _ a.words.now l.all l.i c.requires.2 (omega arith) l.invariant.2 l.invariant.3 in
     c.fill_bytes.ensures ∙ ap (λ (l : List ℕ). numbers 328 8 (bits_each 10 l)) e

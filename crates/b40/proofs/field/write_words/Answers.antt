@@ -1,5 +1,4 @@
--- `b40::field::write_words` meets its contract. The loop's invariant: the places of the first `i` groups of four are filled with runs of ten bits.
--- The measure is what is left of 65 groups.
+-- `b40::field::write_words` meets its contract.
 -- Assumes nothing.
 use mathlib.Core.Path.{◌≡◌, refl, ap, ◌∙◌}
 use mathlib.Core.List.{List}
@@ -15,7 +14,8 @@ use Rattle.b40.proofs.field.write_words.Goals as goal
 
 pub loop-i-preserved : goal.loop-i-preserved
 unfolding part
-loop-i-preserved c = let l = c.loop-i in
+loop-i-preserved c =
+    let l = c.loop-i in
     let put = placed 262 10 (bits_of c.args.field.now) c.args.out.now c.requires.1 in
     let i = 4 * l.i in
     let e1 = put l.out i (i + 1) (8 * (5 * l.i) + 0) _ l.invariant.2 (omega arith) c.word.ensures (omega arith) refl in
@@ -25,7 +25,8 @@ loop-i-preserved c = let l = c.loop-i in
 
 pub returns : goal.returns
 unfolding part
-returns c = let l = c.loop-i in
+returns c =
+    let l = c.loop-i in
     let b = bits_of c.args.field.now in
     let old = c.args.out.now in
     let put = placed 262 10 b old c.requires.1 in

@@ -9,6 +9,7 @@ use Rattle.desk.proofs.Desk.send.Goals as goal
 
 pub returns : goal.returns
 unfolding sent send_leaves send_refusal
-returns c = let a = c.args in
+returns c =
+    let a = c.args in
     let n : length a.self.bytes ≡ 248 = search rules in
     rw c.if-out-ne-WORDS.false (refl, c.write_layout.ensures.1 ∙ send-writes a.self a.out.now n c.if-out-ne-WORDS.false)

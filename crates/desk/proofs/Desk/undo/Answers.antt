@@ -9,6 +9,7 @@ returns-then-count-eq0 c = undo-none c.args.self _ c.held-count.ensures.0 _ c.if
 
 pub returns : goal.returns
 unfolding undone
-returns c = let put = c.put_back.ensures.1 in
+returns c =
+    let put = c.put_back.ensures.1 in
     let held = c.held-count.ensures.0 in
     simp (undo-passes c.args.self _ held c.if-count-eq0.false, put, held)

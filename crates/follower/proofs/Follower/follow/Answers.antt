@@ -7,10 +7,12 @@ use Rattle.follower.proofs.Laws.Read.{follow-accepted, follow-refused}
 use Rattle.follower.proofs.Follower.follow.Goals as goal
 
 pub returns-in-Accepted : goal.returns-in-Accepted
-returns-in-Accepted c = let read = c.read_packet_into-reading.ensures in
+returns-in-Accepted c =
+    let read = c.read_packet_into-reading.ensures in
     c.accept.ensures ∙ follow-accepted _ _ _ _ refl read.0 _ _ c.in-Accepted.is read.1
 
 pub returns-in-Refused : goal.returns-in-Refused
 unfolding refuses
-returns-in-Refused c = let read = c.read_packet_into-reading.ensures in
+returns-in-Refused c =
+    let read = c.read_packet_into-reading.ensures in
     rw c.refuse.ensures (follow-refused _ _ (replicate 248 0) _ refl read.0 _ c.in-Refused.is)

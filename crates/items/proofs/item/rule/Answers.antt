@@ -10,10 +10,12 @@ use Rattle.items.proofs.item.rule.Goals as goal
 
 pub returns-then-number-eq6 : goal.returns-then-number-eq6
 unfolding rule_of rule_in row_of items place_of place_in
-returns-then-number-eq6 c = let one : length c.args.bytes.now ≡ 1 = long-at c.requires c.if-number-eq6.true in
+returns-then-number-eq6 c =
+    let one : length c.args.bytes.now ≡ 1 = long-at c.requires c.if-number-eq6.true in
     rw c.if-number-eq6.true (c.sound_byte.ensures ∙ sym (sound-one _ one))
 
 pub returns-then-number-eq7 : goal.returns-then-number-eq7
 unfolding rule_of rule_in row_of items place_of place_in
-returns-then-number-eq7 c = let one : length c.args.bytes.now ≡ 1 = long-at c.requires c.if-number-eq7.true in
+returns-then-number-eq7 c =
+    let one : length c.args.bytes.now ≡ 1 = long-at c.requires c.if-number-eq7.true in
     rw c.if-number-eq7.true (c.sound_byte-then-number-eq7.ensures ∙ sym (sound-one _ one))

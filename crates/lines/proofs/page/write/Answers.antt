@@ -1,5 +1,4 @@
--- `lines::page::write` meets its contract. The loop's invariant: what is to be written is the rest of the text, on what the page is by now. The
--- measure is what is left of the length.
+-- `lines::page::write` meets its contract.
 -- Assumes nothing.
 use mathlib.Core.Path.{sym, ap, ◌∙◌}
 use Prim.Native.Nat.{◌+◌}
@@ -11,10 +10,12 @@ use Rattle.lines.proofs.Laws.Page.{write_step, write-end}
 use Rattle.lines.proofs.page.write.Goals as goal
 
 pub loop-i-preserved : goal.loop-i-preserved
-loop-i-preserved c = let l = c.loop-i in
+loop-i-preserved c =
+    let l = c.loop-i in
     let text = c.args.text.now in
     (omega arith, l.invariant.1 ∙ write_step l.out text l.i (omega arith) ∙ ap (λ (p : Page). written p (drop (l.i + 1) text)) (sym c.push-next.ensures))
 
 pub returns : goal.returns
-returns c = let l = c.loop-i in
+returns c =
+    let l = c.loop-i in
     sym (l.invariant.1 ∙ write-end l.out c.args.text.now l.i (omega arith))

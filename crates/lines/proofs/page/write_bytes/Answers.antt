@@ -1,5 +1,4 @@
--- `lines::page::write_bytes` meets its contract. The loop's invariant: what is to be written is the rest of the bytes, on what the page is by now.
--- The measure is what is left of the length.
+-- `lines::page::write_bytes` meets its contract.
 -- Assumes nothing.
 use mathlib.Core.Path.{sym, ap, ◌∙◌}
 use Prim.Native.Nat.{◌+◌}
@@ -11,10 +10,12 @@ use Rattle.lines.proofs.Laws.Page.{hex-step, hex-end}
 use Rattle.lines.proofs.page.write_bytes.Goals as goal
 
 pub loop-i-preserved : goal.loop-i-preserved
-loop-i-preserved c = let l = c.loop-i in
+loop-i-preserved c =
+    let l = c.loop-i in
     let bytes = c.args.bytes.now in
     (omega arith, l.invariant.1 ∙ hex-step l.out bytes l.i (omega arith) ∙ ap (λ (p : Page). written p (hex_bytes (drop (l.i + 1) bytes))) (sym c.write_hex-next.ensures))
 
 pub returns : goal.returns
-returns c = let l = c.loop-i in
+returns c =
+    let l = c.loop-i in
     sym (l.invariant.1 ∙ hex-end l.out c.args.bytes.now l.i (omega arith))

@@ -9,13 +9,15 @@ use Rattle.plain.proofs.Laws.Judge.{parts_none, parts_more, judged-false}
 use Rattle.plain.proofs.solver.explained.Goals as goal
 
 pub loop-m-init : goal.loop-m-init
-loop-m-init c = let a : Fits w8 c.args.a = search rules in
+loop-m-init c =
+    let a : Fits w8 c.args.a = search rules in
     let b : Fits w8 c.args.b = search rules in
     let d : Fits w8 c.args.c = search rules in
     (parts_none _ _ _ _ _ _ _ a.fits b.fits d.fits, search rules)
 
 pub returns-then-s-m : goal.returns-then-s-m
-returns-then-s-m c = let l = c.loop-m in
+returns-then-s-m c =
+    let l = c.loop-m in
     judged-false _ _ _ _ _ _ _ _ _ _ _ l.invariant.0 (search rules) (λ e. c.if-s-m.true (e ∙ sym (c.sum-in-loop-m.ensures ∙ ap (◌⊕◌ l.u) c.sum.ensures)))
 
 pub loop-m-preserved : goal.loop-m-preserved

@@ -12,7 +12,8 @@ use borrow.Author.Rules.{rules}
 use Rattle.plain.proofs.solver.three.Goals as goal
 
 pub returns : goal.returns
-returns c = let x : Fits w8 c.args.x = search rules in
+returns c =
+    let x : Fits w8 c.args.x = search rules in
     let y : Fits w8 c.args.y = search rules in
     let z : Fits w8 c.args.z = search rules in
     three-solved _ _ _ _ _ _ _ _ x.fits y.fits z.fits c.requires.2 c.requires.3

@@ -6,7 +6,8 @@ use Rattle.plain.proofs.Laws.Solve.{apart}
 use Rattle.plain.proofs.solver.three_places.Goals as goal
 
 pub three-v-requires : goal.three-v-requires
-three-v-requires c = let x = c.element-x.ensures in
+three-v-requires c =
+    let x = c.element-x.ensures in
     let y = c.element-y.ensures in
     let z = c.element-z.ensures in
     let pre = c.requires in

@@ -9,7 +9,8 @@ use borrow.Author.Rules.{rules}
 use Rattle.plain.proofs.solver.two.Goals as goal
 
 pub returns : goal.returns
-returns c = let y : Fits w8 c.args.y = search rules in
+returns c =
+    let y : Fits w8 c.args.y = search rules in
     let z : Fits w8 c.args.z = search rules in
     two-solved _ _ _ _ y.fits z.fits c.requires.2 _ _
     (c.divided-c.ensures ∙ ap₂ over c.killed.ensures c.sum.ensures) c.sum-2.ensures

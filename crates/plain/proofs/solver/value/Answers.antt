@@ -8,5 +8,6 @@ pub loop-i-init : goal.loop-i-init
 loop-i-init c = valued-none _ _
 
 pub loop-i-preserved : goal.loop-i-preserved
-loop-i-preserved c = let l = c.loop-i in
+loop-i-preserved c =
+    let l = c.loop-i in
     valued-more _ _ _ _ l.invariant _ _ (search rules) (c.type_inv.block l.i).fits c.times.ensures c.sum-v.ensures

@@ -1,5 +1,4 @@
--- `reading::reader::all_fill` meets its contract. The loop's invariant: the answer is that of the words passed. The measure is what is left of
--- the length.
+-- `reading::reader::all_fill` meets its contract.
 -- Assumes nothing.
 use mathlib.Core.Path.{refl}
 use native.Mathlib.Omega.{arith}
@@ -8,9 +7,11 @@ use Rattle.reading.specs.Reading.{is_fill}
 use Rattle.reading.proofs.reader.all_fill.Goals as goal
 
 pub loop-i-preserved : goal.loop-i-preserved
-loop-i-preserved c = let l = c.loop-i in
+loop-i-preserved c =
+    let l = c.loop-i in
     passing-more is_fill c.args.words.now l.i l.ok _ l.invariant (omega arith) refl
 
 pub returns : goal.returns
-returns c = let l = c.loop-i in
+returns c =
+    let l = c.loop-i in
     passing-all is_fill c.args.words.now l.i l.ok l.invariant (omega arith)

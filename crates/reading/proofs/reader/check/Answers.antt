@@ -8,11 +8,13 @@ pub check_body-requires : goal.check_body-requires
 check_body-requires c = (head-long _ _ c.head_refusal-head.ensures c.in-Passed.is, c.requires)
 
 pub returns-in-Passed : goal.returns-in-Passed
-returns-in-Passed c = let head = c.head_refusal-head.ensures in
+returns-in-Passed c =
+    let head = c.head_refusal-head.ensures in
     let told = c.in-Passed.is in
     (whole-passed _ _ head _ told c.check_body.ensures.0, c.check_body.ensures.1 ∙ left_passed _ _ head _ _ told)
 
 pub returns-in-Refused : goal.returns-in-Refused
-returns-in-Refused c = let head = c.head_refusal-head.ensures in
+returns-in-Refused c =
+    let head = c.head_refusal-head.ensures in
     let told = c.in-Refused.is in
     (whole-refused _ _ head _ told, left-refused _ _ head _ _ _ told)

@@ -14,7 +14,8 @@ use Rattle.reading.proofs.reader.head_refusal.Goals as goal
 
 pub returns : goal.returns
 unfolding head_refusal
-returns c = let ws : List ℕ = c.args.words.now in
+returns c =
+    let ws : List ℕ = c.args.words.now in
     let is-kind : Bool = eqb (word ws 3) 0x25F && eqb (word ws 4) 0x1FE in
     let c1 = chained_more (refusal_plain Wide) chained-none c.then-wide.ensures c.narrow.ensures in
     let c2 = chained_more (refusal_plain Flag) c1 c.then-flag.ensures c.has_flag.ensures in

@@ -9,7 +9,8 @@ use Rattle.reading.proofs.reader.packet.Goals as goal
 
 pub returns-then-words-eq1 : goal.returns-then-words-eq1
 unfolding correction_of protected_of
-returns-then-words-eq1 c = let ws : List ℕ = c.args.words.now in
+returns-then-words-eq1 c =
+    let ws : List ℕ = c.args.words.now in
     let bytes : List ℕ = c.args.bytes.now in
     packet-on ws bytes _ (eq-eqb _ _ c.if-words-eq1.true) c.fixed.ensures
 

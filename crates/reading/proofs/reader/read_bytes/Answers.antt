@@ -19,14 +19,16 @@ use Rattle.reading.proofs.Laws.Reader.{repair-decides, guarded-off, bytes_on, by
 use Rattle.reading.proofs.reader.read_bytes.Goals as goal
 
 pub returns-then-correction : goal.returns-then-correction
-returns-then-correction c = let ws : List ℕ = c.args.words.now in
+returns-then-correction c =
+    let ws : List ℕ = c.args.words.now in
     let low = low-filled _ ws _ c.low_bytes.ensures.1 (c.requires.0 ∙ sym c.requires.1) in (
       c.repair_marked.ensures.0 ∙ ap checked_of (ap (marked_refusal ws) low ∙ repair-decides _ ws c.if-correction.true c.requires.0),
       c.repair_marked.ensures.1 ∙ ap (marked_leaves ws) low ∙ bytes_on _ ws c.if-correction.true c.requires.0,
     )
 
 pub returns : goal.returns
-returns c = let ws : List ℕ = c.args.words.now in
+returns c =
+    let ws : List ℕ = c.args.words.now in
     let low = low-filled _ ws _ c.low_bytes.ensures.1 (c.requires.0 ∙ sym c.requires.1) in
     let c1 = chained-from (unsound_from 1 (data_words ws)) (c.check_words-parity.ensures ∙ ap checked_of (words-few (data_words ws) (omega (arith, take-most 248 ws)))) in
     let c2 = chained_more (refusal_plain Fill) c1 c.then.ensures (c.all_fill.ensures ∙ ap (all is_fill) (last-six ws c.requires.0)) in

@@ -17,7 +17,8 @@ pub loop-i-init : goal.loop-i-init
 loop-i-init c = (search rules, divide-none)
 
 pub loop-i-preserved : goal.loop-i-preserved
-loop-i-preserved c = let t : List ℕ = c.args.table.now in
+loop-i-preserved c =
+    let t : List ℕ = c.args.table.now in
     let l : List ℕ = c.args.bytes.now in
     let i : ℕ = c.loop-i.i in
     let s : ℕ = c.loop-i.state in

@@ -9,6 +9,7 @@ use Rattle.rs.proofs.Laws.Packed.{pack-six}
 use Rattle.rs.proofs.division.pack.Goals as goal
 
 pub returns : goal.returns
-returns c = let g : List ℕ = c.args.g in
+returns c =
+    let g : List ℕ = c.args.g in
     let h : length g ≡ 6 = search rules in
     cc (pack-six g h)

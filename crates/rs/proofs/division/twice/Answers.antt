@@ -12,5 +12,6 @@ returns-then-a-lt128 c = twice-small c.args.a (search rules)
 
 pub returns : goal.returns
 unfolding ◌⊕◌
-returns c = let f : Fits w8 c.args.a = search rules in
+returns c =
+    let f : Fits w8 c.args.a = search rules in
     twice-large c.args.a f.fits (search rules)

@@ -45,14 +45,16 @@ loop-k-init c = (sym (scale_one _ (bytes c.args.p (λ i. search rules))), omega 
 
 pub loop-k-preserved : goal.loop-k-preserved
 unfolding pow
-loop-k-preserved c = let loop = c.loop-k in
+loop-k-preserved c =
+    let loop = c.loop-k in
     let p : List ℕ = c.args.p in
     let more = scale-scale 2 (pow 2 loop.k) p ∙ ap (λ (n : ℕ). scale (pow 2 n) p) (sym (add-one loop.k)) in
     (c.doubled-next.ensures ∙ ap (scale 2) loop.invariant.0 ∙ more, search rules)
 
 pub returns : goal.returns
 unfolding ◌⊕◌
-returns c = let p : List ℕ = c.args.p in
+returns c =
+    let p : List ℕ = c.args.p in
     let s : List ℕ = c.loop-k.scaled in
     let j : ℕ = c.args.j in
     let end : c.loop-k.k ≡ j = omega arith in

@@ -1,4 +1,4 @@
--- `search::marked::collect` meets its contract. The loop's invariant is `Collecting`. The measure is how many flags are left.
+-- `search::marked::collect` meets its contract.
 -- Assumes nothing.
 use mathlib.Core.Path.{refl, sym, ◌∙◌, subst₂}
 use mathlib.Core.List.{List}
@@ -9,7 +9,8 @@ use Rattle.search.proofs.marked.collect.Goals as goal
 use Rattle.search.proofs.marked.collect.Goals.{then-flags-i-ne0, then-count-lt6, else-count-lt6, else-flags-i-ne0}
 
 pub loop-i-preserved : goal.loop-i-preserved
-loop-i-preserved c = let l = c.loop-i in
+loop-i-preserved c =
+    let l = c.loop-i in
     let fs : List ℕ = c.args.flags.now in
     let h : l.i < 254 = omega arith in
     elim c.if-flags-i-ne0.branch [
@@ -28,5 +29,6 @@ loop-i-preserved c = let l = c.loop-i in
     ]
 
 pub returns : goal.returns
-returns c = let l = c.loop-i in
+returns c =
+    let l = c.loop-i in
     collecting-all c.args.flags.now l.places l.count l.i c.requires (omega arith) l.invariant

@@ -1,4 +1,4 @@
--- `search::marked::flags` meets its contract. The loop's invariant: the first `i` places are filled. The measure is what is left of the length.
+-- `search::marked::flags` meets its contract.
 -- Assumes nothing.
 use mathlib.Core.Path.{◌≡◌, sym, ◌∙◌}
 use mathlib.Core.List.{List, map}
@@ -15,7 +15,8 @@ long : (words out : List ℕ) → length words ≡ 254 → length out ≡ 254 �
 long words out e f = flags-length words ∙ e ∙ sym f
 
 pub loop-i-preserved : goal.loop-i-preserved
-loop-i-preserved c = let l = c.loop-i in
+loop-i-preserved c =
+    let l = c.loop-i in
     let xs : List ℕ = c.args.words.now in
     let old : List ℕ = c.args.out.now in
     filling-more (map flag_of xs) old (long xs old c.requires.0 c.requires.1) l.out l.i _ l.invariant (omega (arith, c.requires.0, c.requires.1)) (flags-at xs l.i (omega arith) ∙ sym c.flag.ensures)

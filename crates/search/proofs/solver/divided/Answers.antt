@@ -8,6 +8,7 @@ use borrow.Author.Rules.{rules}
 use Rattle.search.proofs.solver.divided.Goals as goal
 
 pub returns : goal.returns
-returns c = let a : Fits w8 c.args.a = search rules in
+returns c =
+    let a : Fits w8 c.args.a = search rules in
     let b : Fits w8 c.args.b = search rules in
     c.quotient_in.ensures ∙ quotient-right _ _ _ _ c.requires.wheel c.requires.logs a.fits b.fits

@@ -12,7 +12,8 @@ returns-then-k-ge254 c = not_three _ _ c.no_errors.ensures
     (λ k y m z i w hk hm hi py hy pz hz pw hw E. omega (arith, top-three k y m z i w _ hk hm hi py hy pz hz pw hw E _ c.locator_three.ensures _ c.top_root-k.ensures))
 
 pub returns : goal.returns
-returns c = let two = c.two_errors-left.ensures in
+returns c =
+    let two = c.two_errors-left.ensures in
     record {
       placed = record { first = search rules; second = two.placed.first; third = two.placed.second };
       finds = λ k y m z i w hk hm hi py hy pz hz pw hw E.

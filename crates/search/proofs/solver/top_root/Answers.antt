@@ -10,7 +10,8 @@ use Rattle.search.proofs.solver.top_root.Goals as goal
 
 pub returns-then-sum3-b : goal.returns-then-sum3-b
 unfolding scanned
-returns-then-sum3-b c = let ha : Fits w8 c.args.l.a = search rules in
+returns-then-sum3-b c =
+    let ha : Fits w8 c.args.l.a = search rules in
     let hb : Fits w8 c.args.l.b = search rules in
     let hc : Fits w8 c.args.l.c = search rules in
     let e : c.sum3.result ≡ c.args.l.b = search rules in
@@ -18,7 +19,8 @@ returns-then-sum3-b c = let ha : Fits w8 c.args.l.a = search rules in
     _ (search rules) (sym c.sum3.ensures ∙ e) (λ j h l. c.loop-k.invariant.1 j (omega arith) l)
 
 pub returns : goal.returns
-returns c = let ha : Fits w8 c.args.l.a = search rules in
+returns c =
+    let ha : Fits w8 c.args.l.a = search rules in
     let hb : Fits w8 c.args.l.b = search rules in
     let hc : Fits w8 c.args.l.c = search rules in
     top-none _ _ _ _ _ c.requires ha.fits hb.fits hc.fits c.log_in-la.ensures.0 c.log_in-lc.ensures.0

@@ -12,7 +12,8 @@ use borrow.Author.Rules.{rules}
 use Rattle.search.proofs.solver.value.Goals as goal
 
 pub returns : goal.returns
-returns c = let l : List ℕ = c.args.bytes in
+returns c =
+    let l : List ℕ = c.args.bytes in
     let n : length l ≡ 6 = search rules in
     let h : (i : ℕ) → get_or l i 0 < 256 = λ i. let b : Fits w8 (get_or l i 0) = search rules in b.fits in
     value-six c.args.x l _ _ _ _ _ n (at-below 256 l h) c.plus_times-a.ensures c.plus_times-b.ensures c.plus_times-c.ensures

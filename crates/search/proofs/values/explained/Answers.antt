@@ -9,7 +9,8 @@ use Rattle.search.proofs.Laws.Values.{explaining-none, explaining-more, held-fal
 use Rattle.search.proofs.values.explained.Goals as goal
 
 pub loop-j-init : goal.loop-j-init
-loop-j-init c = let b : (i : ℕ) → Fits w8 (get_or c.args.v i 0) = λ i. search rules in
+loop-j-init c =
+    let b : (i : ℕ) → Fits w8 (get_or c.args.v i 0) = λ i. search rules in
     explaining-none _ _ _ (search rules) (λ i. (b i).fits)
 
 pub returns-then-s-j : goal.returns-then-s-j

@@ -17,7 +17,8 @@ turned : (w l places : List ℕ) (i y r : ℕ) → Tables w l × AllPlaced place
 turned w l places i y r p e = let h : get_or places i 0 < 254 = p.1.at i in e ∙ ap (◌⊗◌ y) (p.0.wheel.at _ (omega arith))
 
 pub returns : goal.returns
-returns c = let p = c.requires in
+returns c =
+    let p = c.requires in
     six-stepped _ _ (search rules) (search rules) _ _ _ _ _ _
     (turned _ _ _ 0 _ _ p c.times.ensures)
     (turned _ _ _ 1 _ _ p c.times-2.ensures)

@@ -11,7 +11,8 @@ pub loop-i-init : goal.loop-i-init
 loop-i-init c = (search rules, λ s F. valued-none _ s _ (search rules))
 
 pub loop-i-preserved : goal.loop-i-preserved
-loop-i-preserved c = let l = c.loop-i in
+loop-i-preserved c =
+    let l = c.loop-i in
     let e : l.i ≡ suc (l.i - 1) = omega arith in (
       search rules,
       λ s F. valued-more _ s _ _ _ (l.i - 1) _ (search rules) (search rules) (c.requires.0.wheel.at _ (omega (arith, c.requires.2.at (l.i - 1)))) c.unscaled-before.ensures
