@@ -1,14 +1,14 @@
-// The refusals: why a call says no, and at which byte. Every crate that can refuse answers with these, and its checks follow one another
-// by `then`.
+// The refusals: why a call says no, and at which byte. Every crate that can refuse answers with these in a Result,
+// and its checks follow one another by `?`.
 #![tactic(auto)]
 
 ghost use Rattle.std.specs.Prelude.{◌≡◌};
 ghost use Rattle.refusal.specs.Number.{number_of, bits_of, bits_in, refusal_at, refusal_plain};
-ghost use Rattle.refusal.specs.Chain.{require, passed, next};
-ghost use Rattle.refusal.specs.Checked.{checked_of, refusal_in};
+ghost use Rattle.refusal.specs.Chain.{require, passed};
+ghost use Rattle.refusal.specs.Checked.{checked_of};
 
 // What is wrong with a word that is not sound: b8, b9 or both are not what b0 to b7 call for.
-#[derive(Clone, Copy)]
+#[derive(Clone, Copy, Debug, PartialEq, Eq)]
 pub enum Wrong {
     B8,
     B9,
@@ -16,7 +16,7 @@ pub enum Wrong {
 }
 
 // One case for each number on the fixed list, in the list's order. PARITY, and no other, says what is wrong with the word.
-#[derive(Clone, Copy)]
+#[derive(Clone, Copy, Debug, PartialEq, Eq)]
 pub enum Reason {
     Length,
     Wide,
@@ -44,53 +44,57 @@ pub enum Reason {
 }
 
 // A refusal: its reason, which has the number, and its place, 0 where the list gives none.
-#[derive(Clone, Copy)]
+#[derive(Clone, Copy, Debug, PartialEq, Eq)]
 pub struct Refusal {
     pub reason: Reason,
     pub place: u8,
 }
 
 // The number that the fixed list gives a reason.
-#[tactic(auto, unfolding(crate::specs::Number::number_of))]
-pub fn number(reason: Reason) -> u8
-    ensures { result ≡ number_of reason }
-{
-    match reason {
-        Reason::Length => 1,
-        Reason::Wide => 2,
-        Reason::Flag => 3,
-        Reason::Kind => 4,
-        Reason::Count => 5,
-        Reason::Header => 6,
-        Reason::Parity(_) => 7,
-        Reason::Fill => 8,
-        Reason::BeyondRepair => 9,
-        Reason::Checksum => 10,
-        Reason::Station => 11,
-        Reason::Time => 12,
-        Reason::Picture => 13,
-        Reason::Sound => 14,
-        Reason::ReservedArea => 15,
-        Reason::Item => 20,
-        Reason::Size => 21,
-        Reason::NothingToUndo => 22,
-        Reason::Room => 23,
-        Reason::FieldLength => 25,
-        Reason::FieldHead => 26,
-        Reason::Index => 27,
-        Reason::OffRetired => 41,
+impl From<Reason> for u8 {
+    ghost from_gives = { λ reason n. n ≡ number_of reason };
+
+    #[tactic(auto, unfolding(crate::specs::Number::number_of))]
+    fn from(reason: Reason) -> u8 {
+        match reason {
+            Reason::Length => 1,
+            Reason::Wide => 2,
+            Reason::Flag => 3,
+            Reason::Kind => 4,
+            Reason::Count => 5,
+            Reason::Header => 6,
+            Reason::Parity(_) => 7,
+            Reason::Fill => 8,
+            Reason::BeyondRepair => 9,
+            Reason::Checksum => 10,
+            Reason::Station => 11,
+            Reason::Time => 12,
+            Reason::Picture => 13,
+            Reason::Sound => 14,
+            Reason::ReservedArea => 15,
+            Reason::Item => 20,
+            Reason::Size => 21,
+            Reason::NothingToUndo => 22,
+            Reason::Room => 23,
+            Reason::FieldLength => 25,
+            Reason::FieldHead => 26,
+            Reason::Index => 27,
+            Reason::OffRetired => 41,
+        }
     }
 }
 
 // What is wrong with a word, as a number: 1 is b8, 2 is b9, 3 is both.
-#[tactic(auto, unfolding(crate::specs::Number::bits_of))]
-pub fn bits(wrong: Wrong) -> u8
-    ensures { result ≡ bits_of wrong }
-{
-    match wrong {
-        Wrong::B8 => 1,
-        Wrong::B9 => 2,
-        Wrong::Both => 3,
+impl From<Wrong> for u8 {
+    ghost from_gives = { λ wrong n. n ≡ bits_of wrong };
+
+    #[tactic(auto, unfolding(crate::specs::Number::bits_of))]
+    fn from(wrong: Wrong) -> u8 {
+        match wrong {
+            Wrong::B8 => 1,
+            Wrong::B9 => 2,
+            Wrong::Both => 3,
+        }
     }
 }
 
@@ -100,7 +104,7 @@ pub fn bits_in(reason: Reason) -> u8
     ensures { result ≡ bits_in reason }
 {
     match reason {
-        Reason::Parity(wrong) => bits(wrong),
+        Reason::Parity(wrong) => u8::from(wrong),
         _ => 0,
     }
 }
@@ -119,35 +123,9 @@ pub fn at(reason: Reason, place: u8) -> Refusal
     Refusal { reason, place }
 }
 
-// What a check answers.
-#[derive(Clone, Copy)]
-pub enum Checked {
-    Passed,
-    Refused(Refusal),
-}
-
-// One check more: a refusal that was given stands, else the test decides.
-pub fn then(earlier: Checked, ok: bool, reason: Reason, place: u8) -> Checked
-    ensures { result ≡ checked_of (next (refusal_in earlier) (require ok (refusal_at reason place) passed)) }
+// A check: where it fails, `why` is the refusal. The checks of a call follow one another by `?`, so that the first that fails is its answer.
+pub fn require(ok: bool, why: Refusal) -> Result<(), Refusal>
+    ensures { result ≡ checked_of (require ok why passed) }
 {
-    match earlier {
-        Checked::Refused(first) => Checked::Refused(first),
-        Checked::Passed => {
-            if ok {
-                Checked::Passed
-            } else {
-                Checked::Refused(Refusal { reason, place })
-            }
-        }
-    }
-}
-
-// The checks of one call behind those of another: a refusal of the first stands, else the second decides.
-pub fn next(first: Checked, second: Checked) -> Checked
-    ensures { result ≡ checked_of (next (refusal_in first) (refusal_in second)) }
-{
-    match first {
-        Checked::Refused(why) => Checked::Refused(why),
-        Checked::Passed => second,
-    }
+    if ok { Ok(()) } else { Err(why) }
 }

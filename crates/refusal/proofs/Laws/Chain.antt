@@ -9,9 +9,8 @@ use Prim.Native.Nat.{ℕ}
 use lib.Dec.{eqb}
 use borrow.Author.Tests.{not-true, not-false, eq-eqb}
 use Rattle.refusal.specs.Chain.{require, passed, next}
-use Rattle.refusal.specs.Checked.{checked_of, refusal_in}
-use Rattle.refusal.specs.declared.Checked.{Checked}
-use Rattle.refusal.specs.declared.Checked.TheVariants.{Passed, Refused}
+use Rattle.std.specs.Prelude.{Ok, Err}
+use Rattle.refusal.specs.Checked.{Checked, answer_of, checked_of, refusal_in}
 use Rattle.refusal.specs.declared.Refusal.{Refusal}
 use Rattle.refusal.specs.Number.{number_of}
 
@@ -90,18 +89,22 @@ pub refusal-in : (o : Option Refusal) → refusal_in (checked_of o) ≡ o
 refusal-in none = refl
 refusal-in (some why) = refl
 
+pub refusal-in-answer : {A : Type 0} (o : Option Refusal) (x : A) → refusal_in (answer_of o x) ≡ o
+refusal-in-answer none x = refl
+refusal-in-answer (some why) x = refl
+
 -- and is known by it
 pub checked-in : (a : Checked) → checked_of (refusal_in a) ≡ a
-checked-in Passed = refl
-checked-in (Refused why) = refl
+checked-in (Ok done) = refl
+checked-in (Err why) = refl
 
 -- the refusal of an answer that turned out to be b
 pub told : (o : Option Refusal) (a b : Checked) → a ≡ checked_of o → a ≡ b → o ≡ refusal_in b
 told o a b e d = sym (refusal-in o) ∙ ap refusal_in (sym e ∙ d)
 
 -- an answer is not both
-pub passed-refused : (why : Refusal) → Passed ≡ Refused why → ⊥
-passed-refused why e = passed-other why (ap refusal_in e)
+pub passed-refused : {A : Type 0} (x : A) (why : Refusal) → Ok x ≡ Err why → ⊥
+passed-refused x why e = passed-other why (ap refusal_in e)
 
 -- ---- a test that a call answered
 
@@ -118,7 +121,7 @@ pub record Chained (answer : Checked) (chain : Option Refusal → Option Refusal
   pub behind : (rest : Option Refusal) → next (refusal_in answer) rest ≡ chain rest
 
 -- no check yet
-pub chained-none : Chained Passed (λ rest. rest)
+pub chained-none : Chained (Ok tt) (λ rest. rest)
 chained-none = record { behind = λ rest. refl }
 
 -- the checks of a call, by its answer
@@ -148,8 +151,8 @@ chained_more {earlier} {answer} {ok} {test} {chain} why c e p = record {
 
 -- an answer is that of the checks in it
 pub answer-all : (answer : Checked) → answer ≡ checked_of (next (refusal_in answer) passed)
-answer-all Passed = refl
-answer-all (Refused why) = refl
+answer-all (Ok done) = refl
+answer-all (Err why) = refl
 
 -- all of them: the answer is that of the chain
 pub chained-all : {answer : Checked} {chain : Option Refusal → Option Refusal} → Chained answer chain → answer ≡ checked_of (chain passed)

@@ -11,11 +11,10 @@ use native.Mathlib.Omega.{arith}
 use lib.ListN.{length, get_or, drop, drop_of_length-le}
 use lib.Seq.{drop-cons}
 use Rattle.refusal.specs.Chain.{next}
-use Rattle.refusal.specs.Checked.{checked_of, refusal_in}
+use Rattle.std.specs.Prelude.{Ok, Err}
+use Rattle.refusal.specs.Checked.{Checked, checked_of, refusal_in}
 use Rattle.refusal.specs.Run.{first_from, FirstRefused}
 use Rattle.refusal.specs.declared.Refusal.{Refusal}
-use Rattle.refusal.specs.declared.Checked.{Checked}
-use Rattle.refusal.specs.declared.Checked.TheVariants.{Passed, Refused}
 use Rattle.refusal.proofs.Laws.Chain.{passed-other, Without, without-passed, without-next, refusal-in, next-next, answer-all}
 
 -- one entry further, one number further
@@ -80,7 +79,7 @@ module _ (refuses : ℕ → ℕ → Option Refusal) where
 
   module _ (n : ℕ) (l : List ℕ) where
     -- none yet
-    pub walked_none : Walked n l 0 Passed
+    pub walked_none : Walked n l 0 (Ok tt)
     walked_none = record { within = omega arith; so_far = rw (add-zero n) refl }
 
     module _ (i : ℕ) (found : Checked) (p : Walked n l i found) where
@@ -116,9 +115,9 @@ module _ (refuses : ℕ → ℕ → Option Refusal) where
 
     -- ---- one that stops at the first that is refused
 
-    module _ (i : ℕ) (p : Walked n l i Passed) (h : i < length l) where
-      pub walked_on : refuses (n + i) (get_or l i 0) ≡ none → Walked n l (i + 1) Passed
-      walked_on e = walked_more i Passed p h Passed Passed (sym (ap checked_of e)) refl
+    module _ (i : ℕ) (p : Walked n l i (Ok tt)) (h : i < length l) where
+      pub walked_on : refuses (n + i) (get_or l i 0) ≡ none → Walked n l (i + 1) (Ok tt)
+      walked_on e = walked_more i (Ok tt) p h (Ok tt) (Ok tt) (sym (ap checked_of e)) refl
 
-      pub walked-stops : (why : Refusal) → refuses (n + i) (get_or l i 0) ≡ some why → Refused why ≡ checked_of (first_from refuses n l)
-      walked-stops why e = sym (ap checked_of (walked_more i Passed p h (Refused why) (Refused why) (sym (ap checked_of e)) refl).so_far)
+      pub walked-stops : (why : Refusal) → refuses (n + i) (get_or l i 0) ≡ some why → Err why ≡ checked_of (first_from refuses n l)
+      walked-stops why e = sym (ap checked_of (walked_more i (Ok tt) p h (Err why) (Err why) (sym (ap checked_of e)) refl).so_far)
