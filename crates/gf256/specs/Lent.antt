@@ -1,6 +1,6 @@
 -- Product and quotient by two lent tables: a wheel of powers and a table of logarithms.
 -- Assumes nothing.
-use Rattle.std.specs.Prelude.{◌≡◌, List, ℕ, zero, suc, ◌+◌, ◌-◌, ◌<◌, ◌≤◌, length, get_or}
+use Rattle.std.specs.Prelude.{◌≡◌, List, ℕ, zero, suc, ◌+◌, ◌-◌, ◌<◌, ◌≤◌, cond, ltb, length, get_or}
 use Rattle.gf256.specs.Field.{pow}
 
 -- the powers of 2 twice around, and zeros from 510 on
@@ -8,6 +8,10 @@ pub record Wheel (w : List ℕ) : Type 0 where
   pub long : length w ≡ 1021
   pub at : (k : ℕ) → k < 510 → get_or w k 0 ≡ pow 2 k
   pub past : (k : ℕ) → 510 ≤ k → get_or w k 0 ≡ 0
+
+-- what stands on the wheel: a power of 2 below 510, and 0 from there on
+unfoldable pub on_wheel : ℕ → ℕ
+on_wheel k = cond (ltb k 510) (pow 2 k) 0
 
 -- the logarithm of a; that of 0 is past all powers
 unfoldable pub log_in : List ℕ → ℕ → ℕ

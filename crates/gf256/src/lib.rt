@@ -6,10 +6,10 @@
 mod log_table;
 mod power_table;
 
-ghost use Rattle.std.specs.Prelude.{◌≡◌, ◌<◌, ◌≤◌, get_or};
-ghost use Rattle.gf256.specs.Field.{◌⊕◌, ◌⊗◌, over};
+ghost use Rattle.std.specs.Prelude.{◌≡◌, ◌<◌, ◌≤◌, MatchOption};
+ghost use Rattle.gf256.specs.Field.{◌⊕◌, ◌⊗◌, pow, over};
 ghost use Rattle.gf256.specs.Tables.{PowerTable, LogTable};
-ghost use Rattle.gf256.specs.Lent.{Wheel, log_in, product_in, quotient_in};
+ghost use Rattle.gf256.specs.Lent.{Wheel, on_wheel, log_in, product_in, quotient_in};
 
 // The powers of 2 from 0 to 254.
 pub fn powers() -> [u8; 255]
@@ -32,12 +32,8 @@ pub fn wheel() -> [u8; 1021]
 {
     let table = powers();
     let mut turns = [0u8; 1021];
-    let mut k = 0;
-    while k < 255 {
-        turns[k] = table[k];
-        turns[k + 255] = table[k];
-        k += 1;
-    }
+    turns[..255].copy_from_slice(&table);
+    turns[255..510].copy_from_slice(&table);
     turns
 }
 
@@ -48,7 +44,7 @@ pub fn log_in(logs: &[u8; 256], a: u8) -> usize
     if a == 0 {
         return 510;
     }
-    entry(logs, a)
+    usize::from(logs[usize::from(a)])
 }
 
 // The product over lent tables.
@@ -66,7 +62,7 @@ pub fn quotient_in(wheel: &[u8; 1021], logs: &[u8; 256], a: u8, b: u8) -> u8
     if b == 0 {
         return 0;
     }
-    wheel[log_in(logs, a) + 255 - entry(logs, b)]
+    wheel[log_in(logs, a) + 255 - usize::from(logs[usize::from(b)])]
 }
 
 // The sum, which is the difference too.
@@ -76,33 +72,76 @@ pub fn sum(a: u8, b: u8) -> u8
     a ^ b
 }
 
+// The wheel and the logarithms, built once and lent to code that works through many bytes.
+#[derive(Drop)]
+pub struct Tables {
+    wheel: [u8; 1021],
+    logs: [u8; 256],
+    ghost wheel_right: { Wheel wheel },
+    ghost logs_right: { LogTable logs },
+}
+
+impl Tables {
+    // Builds both tables.
+    pub fn new() -> Tables {
+        Tables {
+            wheel: wheel(),
+            logs: logs(),
+        }
+    }
+
+    // The product.
+    pub fn product(&self, a: u8, b: u8) -> u8
+        ensures { result ≡ a ⊗ b }
+    {
+        product_in(&self.wheel, &self.logs, a, b)
+    }
+
+    // The quotient; by 0 it is 0.
+    pub fn quotient(&self, a: u8, b: u8) -> u8
+        ensures { result ≡ over a b }
+    {
+        quotient_in(&self.wheel, &self.logs, a, b)
+    }
+
+    // The power of 2.
+    pub fn power(&self, k: usize) -> u8
+        requires { k < 510 }
+        ensures { result ≡ pow 2 k }
+    {
+        self.wheel[k]
+    }
+
+    // The power of 2 once more, and 0 from 510 on: with 510 for the logarithm of 0, what stands at the sum of two is the product.
+    pub fn on_wheel(&self, k: usize) -> u8
+        requires { k < 1021 }
+        ensures { result ≡ on_wheel k }
+    {
+        self.wheel[k]
+    }
+
+    // The logarithm, which is the power of 2 that a byte is. 0 has none.
+    pub fn log(&self, a: u8) -> Option<usize>
+        ensures { MatchOption result (a ≡ 0) (λ k. (k < 255) × (pow 2 k ≡ a)) }
+    {
+        if a == 0 {
+            None
+        } else {
+            Some(usize::from(self.logs[usize::from(a)]))
+        }
+    }
+}
+
 // The product.
 pub fn product(a: u8, b: u8) -> u8
     ensures { result ≡ a ⊗ b }
 {
-    let turns = wheel();
-    let table = logs();
-    product_in(&turns, &table, a, b)
+    Tables::new().product(a, b)
 }
 
 // The quotient; by 0 it is 0.
 pub fn quotient(a: u8, b: u8) -> u8
     ensures { result ≡ over a b }
 {
-    let turns = wheel();
-    let table = logs();
-    quotient_in(&turns, &table, a, b)
-}
-
-// What stands in a table at a byte.
-fn entry(table: &[u8; 256], a: u8) -> usize
-    ensures { (result ≡ get_or table.now a 0) × (result < 256) }
-{
-    wide(table[wide(a)])
-}
-
-fn wide(x: u8) -> usize
-    ensures { (result ≡ x) × (result < 256) }
-{
-    x as usize
+    Tables::new().quotient(a, b)
 }

@@ -1,17 +1,20 @@
 -- Product and quotient over lent tables are those of the field, where the tables are a wheel and a table of logarithms.
 -- Assumes nothing.
 use mathlib.Core.Path.{◌≡◌, refl, sym, ap, ap₂, ◌∙◌}
-use mathlib.Core.List.{List}
+use mathlib.Core.List.{List, ◌++◌}
+use borrow.Rule.Slice.PartMut.{put_mid}
 use Prim.Native.Nat.{ℕ, zero, suc, ◌+◌, ◌-◌, ◌≤◌, ◌<◌}
 use mathlib.Core.Logic.{⊎_elim}
-use native.Mathlib.Nat.{zero-lt-suc, eq-or-lt_of_le}
+use native.Mathlib.Nat.{zero-lt-suc}
 use native.Mathlib.Omega.{arith}
 use lib.Dec.{lit<}
-use lib.ListN.{length, get_or, set, length-set, replicate, length-replicate}
-use lib.Seq.{ext_get_or, get_or-set_same, get_or-set_other}
+use lib.ListN.{length, get_or, drop, replicate, length-append, length-drop, get_or-append}
+use lib.Seq.{ext_get_or}
+use Rattle.std.proofs.lemmas.Bool.Decides.{nat_tests}
+use Rattle.std.proofs.lemmas.List.{take_at, drop_at, get_or-drop, get_or-append_right}
 use Rattle.gf256.specs.Field.{◌⊗◌, pow, over}
 use Rattle.gf256.specs.Tables.{PowerTable, LogTable}
-use Rattle.gf256.specs.Lent.{Wheel, log_in, product_in, quotient_in}
+use Rattle.gf256.specs.Lent.{Wheel, on_wheel, log_in, product_in, quotient_in}
 use Rattle.basics.proofs.Laws.Test.{lt-or-le}
 use Rattle.gf256.proofs.Laws.Product.{⊗-zero-l, ⊗-zero-r, pow-add, pow-lt, pow_pos, pow-inj, pow-around, over-unique, over-zero-l, over-zero-r}
 
@@ -84,6 +87,20 @@ quotient-right w l (suc a) (suc b) W L ha hb =
     ∙ sym (over-unique (suc a) (suc b) (pow 2 (i + 255 - j)) (zero-lt-suc b) hb (pow-lt 2 _)
     (ap (◌⊗◌ (pow 2 (i + 255 - j))) (sym (L.at (suc b) (zero-lt-suc b) hb)) ∙ sym (pow-add 2 _ j) ∙ ap (pow 2) e ∙ pow-around i ∙ A.at))
 
+-- ---- what stands on the wheel
+
+pub on-below : (k : ℕ) → k < 510 → on_wheel k ≡ pow 2 k
+unfolding on_wheel
+on-below k h = grind (arith, nat_tests)
+
+pub on-past : (k : ℕ) → 510 ≤ k → on_wheel k ≡ 0
+unfolding on_wheel
+on-past k h = grind (arith, nat_tests)
+
+pub on-wheel : (w : List ℕ) (k : ℕ) → Wheel w → get_or w k 0 ≡ on_wheel k
+on-wheel w k W =
+    ⊎_elim (λ (h : k < 510). W.at k h ∙ sym (on-below k h)) (λ (h : 510 ≤ k). W.past k h ∙ sym (on-past k h)) (lt-or-le k 510)
+
 -- ---- one wheel
 
 pub wheel-unique : (v w : List ℕ) → Wheel v → Wheel w → v ≡ w
@@ -93,60 +110,35 @@ wheel-unique v w A W =
 
 -- ---- filling the wheel
 
--- the first k entries of each turn stand, and none behind the second turn
-pub record Turning (t : List ℕ) (k : ℕ) (w : List ℕ) : Type 0 where
-  pub long : length w ≡ 1021
-  pub first : (i : ℕ) → i < k → get_or w i 0 ≡ get_or t i 0
-  pub second : (i : ℕ) → i < k → get_or w (i + 255) 0 ≡ get_or t i 0
-  pub past : (i : ℕ) → 510 ≤ i → get_or w i 0 ≡ 0
+-- two turns and the zeros behind them
+two-turns : (t z : List ℕ) → PowerTable t → length z ≡ 511 → ((i : ℕ) → get_or z i 0 ≡ 0) → Wheel (t ++ (t ++ z))
+two-turns t z P l none = record { long = length-append t (t ++ z) ∙ ap₂ ◌+◌ P.long (length-append t z ∙ ap₂ ◌+◌ P.long l); at = at; past = past }
+  where
+    behind : (k : ℕ) → 255 ≤ k → get_or (t ++ (t ++ z)) k 0 ≡ get_or (t ++ z) (k - 255) 0
+    behind k h = get_or-append_right t (t ++ z) 255 k 0 P.long h
 
-pub zeros-at : (n i : ℕ) → get_or {A = ℕ} (replicate n 0) i 0 ≡ 0
+    first : (k : ℕ) (u : List ℕ) → k < 255 → get_or (t ++ u) k 0 ≡ pow 2 k
+    first k u h = get_or-append t u 0 k (omega (arith, P.long)) ∙ P.at k h
+
+    at : (k : ℕ) → k < 510 → get_or (t ++ (t ++ z)) k 0 ≡ pow 2 k
+    at k h =
+        ⊎_elim (λ (l : k < 255). first k (t ++ z) l)
+        (λ (l : 255 ≤ k).
+        let e : k - 255 + 255 ≡ k = omega arith in
+        behind k l ∙ first (k - 255) z (omega arith) ∙ sym (pow-around (k - 255)) ∙ ap (pow 2) e)
+        (lt-or-le k 255)
+
+    past : (k : ℕ) → 510 ≤ k → get_or (t ++ (t ++ z)) k 0 ≡ 0
+    past k h = behind k (omega arith) ∙ get_or-append_right t z 255 (k - 255) 0 P.long (omega arith) ∙ none (k - 255 - 255)
+
+zeros-at : (n i : ℕ) → get_or {A = ℕ} (replicate n 0) i 0 ≡ 0
 zeros-at zero i = refl
 zeros-at (suc n) zero = refl
 zeros-at (suc n) (suc i) = zeros-at n i
 
-pub turn-none : (t : List ℕ) → Turning t 0 (replicate 1021 0)
-turn-none t = record {
-  long = length-replicate {A = ℕ} 1021 0;
-  first = λ i h. absurd (omega arith);
-  second = λ i h. absurd (omega arith);
-  past = λ i h. zeros-at 1021 i;
-}
-
-set_other : (v : List ℕ) (i j x : ℕ) → (i ≡ j → ⊥) → get_or (set v j x) i 0 ≡ get_or v i 0
-set_other v i j x n = get_or-set_other v j i x 0 n
-
-pub turn_more : (t w : List ℕ) (k x : ℕ) → k < 255 → x ≡ get_or t k 0 → Turning t k w → Turning t (k + 1) (set (set w k x) (k + 255) x)
-turn_more t w k x h e T = record { long = length-set v (k + 255) x ∙ long; first = first; second = second; past = past }
+-- the powers copied twice over zeros
+pub copied-twice : (t : List ℕ) → PowerTable t → Wheel (put_mid 255 255 (t ++ drop 255 (replicate 1021 0)) t)
+copied-twice t P = wheel (replicate 766 0) (zeros-at 766) refl
   where
-    v : List ℕ
-    v = set w k x
-
-    long : length v ≡ 1021
-    long = length-set w k x ∙ T.long
-
-    first : (i : ℕ) → i < k + 1 → get_or (set v (k + 255) x) i 0 ≡ get_or t i 0
-    first i l =
-        set_other v i (k + 255) x (λ q. omega arith)
-        ∙ ⊎_elim (λ (q : i ≡ k). rw q (get_or-set_same w k x 0 (omega (arith, T.long)) ∙ e))
-        (λ (q : i < k). set_other w i k x (λ z. omega arith) ∙ T.first i q) (eq-or-lt_of_le (omega arith))
-
-    second : (i : ℕ) → i < k + 1 → get_or (set v (k + 255) x) (i + 255) 0 ≡ get_or t i 0
-    second i l =
-        ⊎_elim (λ (q : i ≡ k). rw q (get_or-set_same v (k + 255) x 0 (omega (arith, long)) ∙ e))
-        (λ (q : i < k). set_other v (i + 255) (k + 255) x (λ z. omega arith) ∙ set_other w (i + 255) k x (λ z. omega arith) ∙ T.second i q)
-        (eq-or-lt_of_le (omega arith))
-
-    past : (i : ℕ) → 510 ≤ i → get_or (set v (k + 255) x) i 0 ≡ 0
-    past i l = set_other v i (k + 255) x (λ z. omega arith) ∙ set_other w i k x (λ z. omega arith) ∙ T.past i l
-
-pub turn-all : (t w : List ℕ) → PowerTable t → Turning t 255 w → Wheel w
-turn-all t w P T = record {
-  long = T.long;
-  at = λ k h. ⊎_elim (λ (l : k < 255). T.first k l ∙ P.at k l)
-      (λ (l : 255 ≤ k).
-      let e : k - 255 + 255 ≡ k = omega arith in
-      ap (λ (i : ℕ). get_or w i 0) (sym e) ∙ T.second (k - 255) (omega arith) ∙ P.at (k - 255) (omega arith) ∙ sym (pow-around (k - 255)) ∙ ap (pow 2) e)
-      (lt-or-le k 255);
-  past = T.past;
-}
+    wheel : (z : List ℕ) → ((i : ℕ) → get_or z i 0 ≡ 0) → length z ≡ 766 → Wheel (put_mid 255 255 (t ++ z) t)
+    wheel z none l = rw (take_at t z 255 P.long, drop_at t z 255 P.long) (two-turns t (drop 255 z) P (length-drop 255 z ∙ ap (λ (n : ℕ). n - 255) l) (λ i. get_or-drop 255 z i 0 ∙ none (255 + i)))
