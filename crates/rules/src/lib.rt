@@ -1,5 +1,5 @@
-// The rules of the record's items: what each may hold, and which of its bits are read. Each answer is one test, whose parts are all
-// computed: none of them can fail, and none needs another to pass first. A time and a picture mode are handed in by value, so that there is no
+// The rules of the record's items: what each may hold, and which of its bits are read. Each answer is one test, whose
+// parts cannot fail, and none needs another to pass first. A time and a picture mode are handed in by value, so that there is no
 // other number of bytes to speak of.
 #![tactic(auto)]
 
@@ -11,19 +11,6 @@ fn between(low: u8, high: u8, n: u8) -> bool
     ensures { result ≡ within low high n }
 {
     (low <= n) & (n <= high)
-}
-
-// Is n on the list?
-fn one_of(list: &[u8], n: u8) -> bool
-    ensures { result ≡ one_of list.now n }
-{
-    let mut found = false;
-    let mut i = 0;
-    while i < list.len() {
-        found = found | (n == list[i]);
-        i += 1;
-    }
-    found
 }
 
 // ---- item 1, station code
@@ -39,13 +26,7 @@ fn station_byte(b: u8) -> bool
 pub fn station(bytes: &[u8]) -> bool
     ensures { result ≡ station_rule bytes.now }
 {
-    let mut ok = true;
-    let mut i = 0;
-    while i < bytes.len() {
-        ok = ok & station_byte(bytes[i]);
-        i += 1;
-    }
-    ok
+    bytes.iter().all(|b| station_byte(*b))
 }
 
 // ---- item 2, time
@@ -77,53 +58,37 @@ pub fn time(w: [u8; 9]) -> bool
 // ---- items 3 and 4, picture mode
 
 // May these four bytes stand for a picture mode?
-#[tactic(auto, unfolding(crate::specs::Rules::picture_rule, crate::specs::Rules::low_half))]
 pub fn picture(w: [u8; 4]) -> bool
     ensures { result ≡ picture_rule w }
 {
-    let rate = one_of(&[0, 2, 3, 5, 6, 7, 9, 10, 11], w[1] % 16);
-    let sampling = one_of(&[0, 1, 2, 3, 4, 5, 6, 8, 9, 10], w[2] % 16);
+    let rate = [0, 2, 3, 5, 6, 7, 9, 10, 11].contains(&(w[1] % 16));
+    let sampling = [0, 1, 2, 3, 4, 5, 6, 8, 9, 10].contains(&(w[2] % 16));
     (w[0] == 0) | (between(0x81, 0x85, w[0]) & rate & sampling)
 }
 
-// The bit of that weight in its place where it is read, else 0.
-fn bit_if(read: bool, weight: u8, b: u8) -> u8
-    requires { 0 < weight }
-    ensures { (result ≡ cond read (b / weight % 2 * weight) 0) × (result ≤ weight) }
-{
-    if !read {
-        return 0;
-    }
-    if b / weight % 2 == 0 {
-        return 0;
-    }
-    weight
-}
-
-// The four bytes of a picture mode with every bit that isn't read set to zero.
-#[tactic(auto, unfolding(crate::specs::Rules::picture_clean, crate::specs::Rules::bit_for, crate::specs::Rules::only_bit, crate::specs::Rules::low_half))]
+// The four bytes of a picture mode with every bit that isn't read set to zero. Each mask has the bits that are read: b7 of W1 only for 0x85, b6
+// of W2 only for 0x81, and b6 of W3 only for 0x82.
+#[tactic(auto, unfolding(crate::specs::Rules::picture_clean))]
 pub fn picture_clean(w: [u8; 4]) -> [u8; 4]
     ensures { result ≡ picture_clean w }
 {
-    let w0 = w[0];
-    if w0 == 0 {
-        return [0, 0, 0, 0];
+    if w[0] == 0 {
+        return [0; 4];
     }
-    let scans = bit_if(w0 == 0x85, 128, w[1]) + bit_if(true, 64, w[1]);
-    let aspects = bit_if(true, 128, w[2]) + bit_if(w0 == 0x81, 64, w[2]) + bit_if(true, 32, w[2]);
-    let link = bit_if(w0 == 0x82, 64, w[3]) + bit_if(true, 1, w[3]);
-    [w0, scans + w[1] % 16, aspects + w[2] % 16, link]
+    let scans = if w[0] == 0x85 { 0xCF } else { 0x4F };
+    let aspects = if w[0] == 0x81 { 0xEF } else { 0xAF };
+    let link = if w[0] == 0x82 { 0x41 } else { 0x01 };
+    [w[0], w[1] & scans, w[2] & aspects, w[3] & link]
 }
 
 // ---- items 6 and 7, sound mode
 
 // May the byte stand for a sound mode?
-#[tactic(auto, unfolding(crate::specs::Rules::sound_byte))]
 pub fn sound_byte(b: u8) -> bool
     ensures { result ≡ sound_byte b }
 {
     let mode = b % 32;
     let high = b / 32;
-    let several = one_of(&[0x11, 0x12, 0x15, 0x17], mode);
+    let several = [0x11, 0x12, 0x15, 0x17].contains(&mode);
     (mode <= 0x1A) & ((high == 0) | (between(4, 7, high) & several))
 }

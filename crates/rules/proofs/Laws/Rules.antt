@@ -1,40 +1,37 @@
--- The test of any entry by the test of each, and what the tests of a byte come to.
+-- The tests of a list as the library computes them, what the tests of a byte come to, and the bits that a mask leaves.
 -- Assumes nothing.
-use mathlib.Core.Path.{◌≡◌, refl, sym, ap, ◌∙◌}
-use mathlib.Core.Bool.{Bool, true, false, not, ◌&&◌, ◌||◌, and-true, beq}
+use mathlib.Core.Path.{◌≡◌, refl, sym, ap, ap₂, ◌∙◌}
+use mathlib.Core.Bool.{Bool, true, false, cond, ◌&&◌, ◌||◌, and-true}
 use mathlib.Core.List.{List, [], ◌∷◌}
-use Prim.Native.Nat.{ℕ, ◌*◌, ◌<◌}
+use Prim.Native.Nat.{ℕ, ◌+◌, ◌<◌}
 use native.Mathlib.Omega.{arith}
-use lib.Dec.{eqb}
+use borrow.Author.Tests.{eqb-true, eq-eqb}
+use lib.Bits.{bit_and}
+use lib.Dec.{eqb, T}
 use lib.ListN.{length, get_or, take, drop}
 use lib.Seq.{drop-cons, take_all}
+use Rattle.std.proofs.Math.Facts.{eqb_yes}
+use Rattle.std.specs.List.{list_all, list_any}
 use Rattle.basics.specs.Each.{all}
-use Rattle.rules.specs.Rules.{one_of, sound_byte, sound_rule, same_sent}
+use Rattle.basics.proofs.Laws.Test.{same_test, below, below_at}
+use Rattle.rules.specs.Rules.{one_of, only_bit, low_half, sound_byte, sound_rule}
 
--- ---- a test of any entry: not each entry is another
+-- ---- a test of each entry and of any, as the library computes them
 
-pub one_of-all : (l : List ℕ) (n : ℕ) → one_of l n ≡ not (all (λ m. not (eqb n m)) l)
-unfolding one_of all
-one_of-all [] n = refl
-one_of-all (m ∷ l) n = ap (◌||◌ (eqb n m)) (one_of-all l n) ∙ either (eqb n m) (all (λ m. not (eqb n m)) l)
-  where
-    either : (a b : Bool) → (a || not b) ≡ not (not a && b)
-    either true b = refl
-    either false b = refl
+pub list_all-all : (f : ℕ → Bool) (l : List ℕ) → list_all f l ≡ all f l
+unfolding all
+list_all-all f [] = refl
+list_all-all f (m ∷ l) = ap (◌&&◌ (f m)) (list_all-all f l)
 
--- one entry more
-pub found-more : (found hit : Bool) → not (found || hit) ≡ (not found && not hit)
-found-more true hit = refl
-found-more false hit = refl
+flip : (m n : ℕ) → eqb m n ≡ eqb n m
+flip m n = same_test (eqb m n) (eqb n m) (λ e. eq-eqb n m (sym (eqb-true m n e))) (λ e. eq-eqb m n (sym (eqb-true n m e)))
 
--- ---- a rule of one byte, and both or neither
+pub list_any-one_of : (l : List ℕ) (n : ℕ) → list_any (λ m. eqb m n) l ≡ one_of l n
+unfolding one_of
+list_any-one_of [] n = refl
+list_any-one_of (m ∷ l) n = ap₂ ◌||◌ (flip m n) (list_any-one_of l n)
 
--- two equal tests
-pub beq-same-sent : (a b : Bool) → beq a b ≡ same_sent a b
-beq-same-sent true true = refl
-beq-same-sent true false = refl
-beq-same-sent false true = refl
-beq-same-sent false false = refl
+-- ---- a rule of one byte
 
 -- a rule of each entry, on the one entry at i
 pub sound-part : (l : List ℕ) (i : ℕ) → i < length l → sound_rule (take 1 (drop i l)) ≡ sound_byte (get_or l i 0)
@@ -44,10 +41,27 @@ sound-part l i h = rw (drop-cons l i 0 h) (and-true _)
 pub sound-one : (l : List ℕ) → length l ≡ 1 → sound_rule l ≡ sound_byte (get_or l 0 0)
 sound-one l h = ap sound_rule (sym (take_all 1 l (omega arith))) ∙ sound-part l 0 (omega arith)
 
--- ---- a bit, 0 or 1, in its place
+-- ---- the bits of a byte that are read, as a mask leaves them
 
-pub bit-none : (q w : ℕ) → q ≡ 0 → 0 ≡ q * w
-bit-none q w e = rw e (omega arith)
+-- a mask leaves of each byte what the test compares it to
+abbrev leaves : ℕ → (ℕ → ℕ) → Bool
+leaves mask part = below (λ b. eqb (bit_and b mask) (part b)) 256
 
-pub bit-some : (q w : ℕ) → q < 2 → (q ≡ 0 → ⊥) → w ≡ q * w
-bit-some q w h n = let one : q ≡ 1 = omega arith in rw one (omega arith)
+left : (mask : ℕ) (part : ℕ → ℕ) → T (leaves mask part) → (b : ℕ) → b < 256 → bit_and b mask ≡ part b
+left mask part t b h = eqb_yes (below_at (λ (b : ℕ). eqb (bit_and b mask) (part b)) 256 t b h)
+
+-- W1, W2 and W3, where t says whether the bit that only one W0 reads is read
+pub scans-read : (t : Bool) (b : ℕ) → b < 256 → bit_and b (cond t 0xCF 0x4F) ≡ cond t (only_bit 7 b) 0 + only_bit 6 b + low_half b
+unfolding only_bit low_half
+scans-read true = left 0xCF (λ b. only_bit 7 b + only_bit 6 b + low_half b) tt
+scans-read false = left 0x4F (λ b. 0 + only_bit 6 b + low_half b) tt
+
+pub aspects-read : (t : Bool) (b : ℕ) → b < 256 → bit_and b (cond t 0xEF 0xAF) ≡ only_bit 7 b + cond t (only_bit 6 b) 0 + only_bit 5 b + low_half b
+unfolding only_bit low_half
+aspects-read true = left 0xEF (λ b. only_bit 7 b + only_bit 6 b + only_bit 5 b + low_half b) tt
+aspects-read false = left 0xAF (λ b. only_bit 7 b + 0 + only_bit 5 b + low_half b) tt
+
+pub link_read : (t : Bool) (b : ℕ) → b < 256 → bit_and b (cond t 0x41 0x01) ≡ cond t (only_bit 6 b) 0 + only_bit 0 b
+unfolding only_bit
+link_read true = left 0x41 (λ b. only_bit 6 b + only_bit 0 b) tt
+link_read false = left 0x01 (λ b. 0 + only_bit 0 b) tt

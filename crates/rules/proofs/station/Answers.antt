@@ -1,20 +1,16 @@
 -- `rules::station` meets its contract.
 -- Assumes nothing.
-use mathlib.Core.Path.{ap}
-use mathlib.Core.Bool.{◌&&◌}
-use native.Mathlib.Omega.{arith}
-use Rattle.basics.proofs.Laws.Each.{passing-more, passing-all}
+use mathlib.Core.Path.{◌∙◌}
+use Rattle.std.proofs.Common.{rules, tests}
+use Rattle.std.proofs.lemmas.Iterator.{YieldsList-from_slice}
+use Rattle.std.proofs.lemmas.Iterator.Search.{all_from_yields_List}
 use Rattle.rules.specs.Rules.{station_byte, station_rule}
+use Rattle.rules.proofs.Laws.Rules.{list_all-all}
 use Rattle.rules.proofs.station.Goals as goal
-
-pub loop-i-preserved : goal.loop-i-preserved
-loop-i-preserved c =
-    let l = c.loop-i in
-    let a = c.args in
-    passing-more station_byte a.bytes.now l.i l.ok _ l.invariant (omega arith) (ap (◌&&◌ l.ok) c.station_byte-ok.ensures)
 
 pub returns : goal.returns
 unfolding station_rule
 returns c =
-    let l = c.loop-i in
-    passing-all station_byte c.args.bytes.now l.i l.ok l.invariant (omega arith)
+    let bytes = c.args.bytes.now in
+    all_from_yields_List station_byte _ _ _ c.all.ensures.ran (YieldsList-from_slice bytes cc) (λ x b q k. search (rules, tests))
+    ∙ list_all-all station_byte bytes
