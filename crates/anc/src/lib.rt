@@ -6,7 +6,7 @@ ghost use Rattle.refusal.specs.Checked.{checked_of};
 ghost use Rattle.anc.specs.Word.{parity_of, with_b9, word_of, checksum_of};
 ghost use Rattle.anc.specs.Words.{has_flag, narrow, low_bytes, sound_words, fill_refusal, fill_leaves};
 
-use refusal::{Checked, Reason};
+use refusal::{Reason, Refusal, require};
 
 // The even parity of a byte: each half is folded onto the other until one bit is left.
 fn parity(byte: u8) -> u8
@@ -31,7 +31,7 @@ fn with_b9(nine: u16) -> u16
 pub fn word_of(byte: u8) -> u16
     ensures { result ≡ word_of byte }
 {
-    byte as u16 + 256 * (2 - parity(byte)) as u16
+    u16::from(byte) + 256 * u16::from(2 - parity(byte))
 }
 
 // The checksum word of a run of words. The sum may wrap at 65,536, of which 512 is a divisor, so one remainder at the end is
@@ -41,10 +41,8 @@ pub fn checksum(words: &[u16]) -> u16
     ensures { result ≡ checksum_of words.now }
 {
     let mut sum: u16 = 0;
-    let mut i = 0;
-    while i < words.len() {
-        sum = std::num::wrapping_add_u16(sum, words[i]);
-        i += 1;
+    for word in words {
+        sum = sum.wrapping_add(*word);
     }
     with_b9(sum % 512)
 }
@@ -53,10 +51,7 @@ pub fn checksum(words: &[u16]) -> u16
 pub fn has_flag(words: &[u16]) -> bool
     ensures { result ≡ has_flag words.now }
 {
-    if words.len() < 3 {
-        return false;
-    }
-    (words[0] == 0x000) & (words[1] == 0x3FF) & (words[2] == 0x3FF)
+    words.starts_with(&[0x000, 0x3FF, 0x3FF])
 }
 
 // Is no word over 1,023? It goes by the largest, with no early return, so that the words can be taken many at a time.
@@ -64,43 +59,30 @@ pub fn narrow(words: &[u16]) -> bool
     ensures { result ≡ narrow words.now }
 {
     let mut top: u16 = 0;
-    let mut i = 0;
-    while i < words.len() {
-        let word = words[i];
-        if word > top {
-            top = word;
-        }
-        i += 1;
+    for word in words {
+        top = top.max(*word);
     }
     top <= 1023
 }
 
 // Fills `out` with the low bytes of the words. Room for another number of bytes is refused, and stays as it was.
-pub fn low_bytes(words: &[u16], out: &mut [u8]) -> Checked
+pub fn low_bytes(words: &[u16], out: &mut [u8]) -> Result<(), Refusal>
     ensures { (result ≡ checked_of (fill_refusal (low_bytes words.now) (length out.old))) × (out.new ≡ fill_leaves (low_bytes words.now) out.old) }
 {
-    if words.len() != out.len() {
-        return Checked::Refused(refusal::plain(Reason::Room));
-    }
-    let mut i = 0;
-    while i < words.len() {
+    require(words.len() == out.len(), refusal::plain(Reason::Room))?;
+    for i in 0..words.len() {
         out[i] = (words[i] % 256) as u8;
-        i += 1;
     }
-    Checked::Passed
+    Ok(())
 }
 
 // Fills `out` with the sound words of the bytes. Room for another number of words is refused, and stays as it was.
-pub fn sound_words(bytes: &[u8], out: &mut [u16]) -> Checked
+pub fn sound_words(bytes: &[u8], out: &mut [u16]) -> Result<(), Refusal>
     ensures { (result ≡ checked_of (fill_refusal (sound_words bytes.now) (length out.old))) × (out.new ≡ fill_leaves (sound_words bytes.now) out.old) }
 {
-    if bytes.len() != out.len() {
-        return Checked::Refused(refusal::plain(Reason::Room));
-    }
-    let mut i = 0;
-    while i < bytes.len() {
+    require(bytes.len() == out.len(), refusal::plain(Reason::Room))?;
+    for i in 0..bytes.len() {
         out[i] = word_of(bytes[i]);
-        i += 1;
     }
-    Checked::Passed
+    Ok(())
 }

@@ -1,40 +1,26 @@
 -- Runs of words: their lengths and entries, the bytes that sound words carry, which words are narrow, and a lent buffer that is filled.
 -- Assumes nothing.
-use Rattle.std.proofs.Common.{◌≡◌, ℕ, zero, suc, ◌%◌, ◌<◌, ◌≤◌, Bool, true, false, ◌&&◌, eqb, leb, List, [], ◌∷◌, ◌++◌, map, length, get_or, take, sym, refl, ap, ◌∙◌, ap₂, ⊎_elim, le_of_suc-le-suc, not-suc-le-zero, mod-lt, arith, take_all, eq-eqb, ne_eqb, le-leb, leb-true}
-use mathlib.Core.Bool.{and-true, and-false, and_assoc}
-use borrow.Author.Tests.{lt-leb}
+use Rattle.std.proofs.Common.{◌≡◌, ℕ, zero, suc, ◌%◌, ◌<◌, ◌≤◌, Bool, true, ◌&&◌, eqb, leb, List, [], ◌∷◌, ◌++◌, map, max, length, get_or, take, sym, refl, ap, ◌∙◌, ap₂, ⊎_elim, le_of_suc-le-suc, not-suc-le-zero, mod-lt, arith, eq-eqb, ne_eqb, le-leb, leb-true}
+use mathlib.Core.Bool.{and-false, and_comm}
+use mathlib.Core.Bool.{false≢true}
+use borrow.Author.Tests.{lt-leb, eqb-true}
 use lib.ListN.{length-map}
-use Rattle.basics.specs.Each.{all, same}
+use Rattle.basics.specs.Each.{all}
 use Rattle.basics.specs.Below.{Below, Bytes}
-use Rattle.basics.proofs.Laws.Each.{all_append, same-equal, same-other}
-use Rattle.basics.proofs.Laws.Parts.{part-entries}
+use Rattle.basics.proofs.Laws.Each.{all_append, same-equal}
 use Rattle.basics.proofs.Laws.Test.{both_true, lt-or-le}
-use Rattle.refusal.specs.Checked.{checked_of}
+use Rattle.refusal.specs.Chain.{require, passed}
+use Rattle.refusal.specs.Checked.{Checked, checked_of}
+use Rattle.refusal.specs.declared.Refusal.{Refusal}
+use Rattle.refusal.proofs.Laws.Chain.{check-passed, check-failed}
 use Rattle.refusal.specs.Number.{refusal_plain}
 use Rattle.refusal.specs.declared.Reason.TheVariants.{Room}
-use Rattle.refusal.specs.declared.Checked.TheVariants.{Passed, Refused}
+use Rattle.std.specs.Prelude.{Ok, Err}
 use Rattle.anc.specs.Word.{is_sound, word_of}
 use Rattle.anc.specs.Words.{flag, has_flag, narrow, low_bytes, sound_words, fill_refusal, fill_leaves}
 use Rattle.anc.proofs.Laws.Word.{word_lt, word_low, word_sound}
 
 -- ---- the flag
-
--- fewer than three words do not begin with it
-pub no_flag : (words : List ℕ) → length words < 3 → false ≡ has_flag words
-unfolding has_flag flag
-no_flag words h = sym (same-other (take 3 words) flag (λ e. omega (arith, ap length e, length-take-min words h)))
-  where
-    length-take-min : (l : List ℕ) → length l < 3 → length (take 3 l) ≡ length l
-    length-take-min l k = ap length (take_all 3 l (omega arith))
-
--- three words, one by one
-pub flag-tests : (words : List ℕ) → 3 ≤ length words
-    → (eqb (get_or words 0 0) 0x000 && eqb (get_or words 1 0) 0x3FF && eqb (get_or words 2 0) 0x3FF) ≡ has_flag words
-unfolding has_flag same flag
-flag-tests words n =
-    and_assoc (eqb (get_or words 0 0) 0x000) (eqb (get_or words 1 0) 0x3FF) (eqb (get_or words 2 0) 0x3FF)
-    ∙ ap (λ (b : Bool). eqb (get_or words 0 0) 0x000 && (eqb (get_or words 1 0) 0x3FF && b)) (sym (and-true (eqb (get_or words 2 0) 0x3FF)))
-    ∙ ap (λ (l : List ℕ). same l flag) (sym (part-entries 3 0 words (omega arith)))
 
 -- words that begin with it
 pub flag-words : (words : List ℕ) → has_flag words ≡ true → take 3 words ≡ flag
@@ -133,20 +119,35 @@ below-narrow [] p = refl
 below-narrow (w ∷ words) p = let h = p.0 in ap₂ ◌&&◌ (le-leb w 1023 (omega arith)) (below-narrow words p.1)
 
 -- of two words that are both to fit, the larger decides
-pub larger-fits : (a b : ℕ) → a ≤ b → leb b 1023 ≡ (leb a 1023 && leb b 1023)
+larger-fits : (a b : ℕ) → a ≤ b → leb b 1023 ≡ (leb a 1023 && leb b 1023)
 larger-fits a b h =
     ⊎_elim (λ (l : 1023 < b). rw (lt-leb b 1023 l) (sym (and-false (leb a 1023)))) (λ (l : b ≤ 1023). rw (le-leb a 1023 (omega arith))) (lt-or-le 1023 b)
+
+pub max-fits : (a b : ℕ) → leb (max a b) 1023 ≡ (leb a 1023 && leb b 1023)
+max-fits a b =
+    ⊎_elim (λ (l : a < b). let m : max a b ≡ b = omega arith in rw m (larger-fits a b (omega arith)))
+    (λ (l : b ≤ a). let m : max a b ≡ a = omega arith in rw m (larger-fits b a l ∙ and_comm (leb b 1023) (leb a 1023))) (lt-or-le a b)
 
 -- ---- a lent buffer that is filled where it has room for the new entries
 
 module _ (new old : List ℕ) where
-  pub left_alone : (length new ≡ length old → ⊥) → (Refused (refusal_plain Room) ≡ checked_of (fill_refusal new (length old))) × (old ≡ fill_leaves new old)
+  pub left_alone : (length new ≡ length old → ⊥) → (Err (refusal_plain Room) ≡ checked_of (fill_refusal new (length old))) × (old ≡ fill_leaves new old)
   unfolding fill_refusal fill_leaves
   left_alone n = rw (ne_eqb (length new) (length old) n) (refl, refl)
 
-  pub filled-whole : length new ≡ length old → (out : List ℕ) → out ≡ new → (Passed ≡ checked_of (fill_refusal new (length old))) × (out ≡ fill_leaves new old)
+  pub filled-whole : length new ≡ length old → (out : List ℕ) → out ≡ new → (Ok tt ≡ checked_of (fill_refusal new (length old))) × (out ≡ fill_leaves new old)
   unfolding fill_refusal fill_leaves
   filled-whole h out f = rw (eq-eqb (length new) (length old) h) (refl, f)
+
+  -- n are made, and the check of the room passed or failed
+  module _ (n : ℕ) (m : length new ≡ n) {a : Checked} (e : a ≡ checked_of (require (eqb n (length old)) (refusal_plain Room) passed)) where
+    pub has-room : a ≡ Ok tt → length new ≡ length old
+    has-room h = m ∙ eqb-true n (length old) (check-passed _ _ (sym h ∙ e))
+
+    pub no-room : (w : Refusal) → a ≡ Err w → (Err w ≡ checked_of (fill_refusal new (length old))) × (old ≡ fill_leaves new old)
+    no-room w h =
+        let failed = check-failed _ _ w (sym h ∙ e) in
+        rw failed.1 (left_alone (λ k. false≢true (sym failed.0 ∙ eq-eqb n (length old) (sym m ∙ k))))
 
   filled : (out : List ℕ) → out ≡ fill_leaves new old → length new ≡ length old → out ≡ new
   unfolding fill_refusal fill_leaves

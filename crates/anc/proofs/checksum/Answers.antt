@@ -1,12 +1,12 @@
 -- `anc::checksum` meets its contract.
 -- Assumes nothing.
-use Rattle.std.proofs.Common.{◌<◌, length, arith, rules}
+use Rattle.std.proofs.Common.{◌<◌, length, arith}
 use Rattle.anc.proofs.Laws.Checksum.{total-more, wrap-more}
 use Rattle.anc.proofs.checksum.Goals as goal
 
-pub loop-i-preserved : goal.loop-i-preserved
-loop-i-preserved c =
-    let l = c.loop-i in
+pub loop-word-preserved : goal.loop-word-preserved
+loop-word-preserved c =
+    let l = c.loop-word in
     let ws = c.args.words.now in
-    let h : l.i < length ws = omega arith in
-    (search rules, rw (total-more ws l.i h, c.wrapping_add_u16-sum.ensures.value) (wrap-more _ _ _ l.invariant.1))
+    let h : l.word-index < length ws = omega arith in
+    rw (total-more ws l.word-index h) (wrap-more _ _ _ l.invariant)

@@ -1,11 +1,10 @@
--- `anc::has_flag` meets its contract: the three tests are those of the flag's entries.
+-- `anc::has_flag` meets its contract: the library's test is that of the definition.
 -- Assumes nothing.
-use Rattle.std.proofs.Common.{arith}
-use Rattle.anc.proofs.Laws.Words.{no_flag, flag-tests}
+use Rattle.std.proofs.Common.{take, ◌∙◌}
+use Rattle.basics.proofs.Laws.Each.{pointwise-turned}
+use Rattle.anc.specs.Words.{flag, has_flag}
 use Rattle.anc.proofs.has_flag.Goals as goal
 
-pub returns-then-words-lt3 : goal.returns-then-words-lt3
-returns-then-words-lt3 c = no_flag c.args.words.now c.if-words-lt3.true
-
 pub returns : goal.returns
-returns c = flag-tests c.args.words.now (omega arith)
+unfolding has_flag flag
+returns c = c.starts_with.ensures.value ∙ pointwise-turned flag (take 3 c.args.words.now)

@@ -6,8 +6,8 @@ use Rattle.anc.proofs.Laws.Bits.{parity-lt}
 use Rattle.anc.proofs.Laws.Word.{word_sum}
 use Rattle.anc.proofs.word_of.Goals as goal
 
-pub overflow_sub-result : goal.overflow_sub-result
-overflow_sub-result c =
+pub overflow_sub-parity : goal.overflow_sub-parity
+overflow_sub-parity c =
     let p : c.parity.result < 2 = rw c.parity.ensures (parity-lt _) in
     omega arith
 

@@ -10,8 +10,9 @@ use borrow.Author.Tests.{eqb-true, eq-eqb}
 use lib.Dec.{eqb}
 use lib.ListN.{length, get_or, drop, drop_of_length-le}
 use lib.Seq.{drop-cons}
+use Rattle.std.specs.Cmp.Lexicographic.{pointwise}
 use Rattle.basics.specs.Each.{all, same}
-use Rattle.basics.proofs.Laws.Test.{both_true}
+use Rattle.basics.proofs.Laws.Test.{both_true, same_test}
 
 -- ---- a test of each entry
 
@@ -76,6 +77,24 @@ same-other a b n = go (same a b) (same-equal a b)
     go : (t : Bool) → (t ≡ true → a ≡ b) → t ≡ false
     go true f = absurd (n (f refl))
     go false f = refl
+
+-- the library's test of two lists, entry by entry, either way round
+pub pointwise-same : (a b : List ℕ) → pointwise eqb a b ≡ same a b
+unfolding same
+pointwise-same [] [] = refl
+pointwise-same [] (y ∷ b) = refl
+pointwise-same (x ∷ a) [] = refl
+pointwise-same (x ∷ a) (y ∷ b) = ap (◌&&◌ (eqb x y)) (pointwise-same a b)
+
+pub pointwise-turned : (a b : List ℕ) → pointwise eqb a b ≡ same b a
+unfolding same
+pointwise-turned [] [] = refl
+pointwise-turned [] (y ∷ b) = refl
+pointwise-turned (x ∷ a) [] = refl
+pointwise-turned (x ∷ a) (y ∷ b) = ap₂ ◌&&◌ (eqb-turned x y) (pointwise-turned a b)
+  where
+    eqb-turned : (x y : ℕ) → eqb x y ≡ eqb y x
+    eqb-turned x y = same_test (eqb x y) (eqb y x) (λ e. eq-eqb y x (sym (eqb-true x y e))) (λ e. eq-eqb x y (sym (eqb-true y x e)))
 
 -- ---- a loop that says whether two lists are equal
 

@@ -3,7 +3,7 @@
 -- Assumes nothing.
 use mathlib.Core.Path.{◌≡◌, refl, sym, ap, ◌∙◌}
 use mathlib.Core.Bool.{Bool, true, false, not, false≢true}
-use mathlib.Core.Option.{Option, none, some, some-ne-none}
+use mathlib.Core.Option.{Option, none, some, some-ne-none, some-injective}
 use mathlib.Core.Logic.{◌↔◌}
 use Prim.Native.Nat.{ℕ}
 use lib.Dec.{eqb}
@@ -162,3 +162,28 @@ chained-all {answer} c = answer-all answer ∙ ap checked_of (c.behind passed)
 pub chained-last : {answer last whole : Checked} {chain : Option Refusal → Option Refusal} (o : Option Refusal) → Chained answer chain → last ≡ checked_of o
     → whole ≡ checked_of (next (refusal_in answer) (refusal_in last)) → whole ≡ checked_of (chain o)
 chained-last {answer} o c l e = e ∙ ap (λ (p : Option Refusal). checked_of (next (refusal_in answer) p)) (ap refusal_in l ∙ refusal-in o) ∙ ap checked_of (c.behind o)
+
+-- ---- a chain that goes on by `?`
+
+-- a check that passed, and one that failed
+pub check-passed : (t : Bool) (why : Refusal) → Ok tt ≡ checked_of (require t why passed) → t ≡ true
+check-passed true why e = refl
+check-passed false why e = absurd (passed-refused tt why e)
+
+pub check-failed : (t : Bool) (why w : Refusal) → Err w ≡ checked_of (require t why passed) → (t ≡ false) × (w ≡ why)
+check-failed true why w e = absurd (passed-refused tt w (sym e))
+check-failed false why w e = (refl, some-injective w why (ap refusal_in e))
+
+-- the checks so far and one more passed
+pub went-on : {a : Checked} {chain : Option Refusal → Option Refusal} {ok test : Bool} (why : Refusal) → Chained (Ok tt) chain
+    → a ≡ checked_of (require ok why passed) → ok ≡ test → a ≡ Ok tt → Chained (Ok tt) (λ rest. chain (require test why rest))
+went-on why c e p h = chained_more why c (sym h ∙ e) p
+
+-- the checks so far passed, and the next one failed: that is the answer, whatever follows
+pub stopped : {a : Checked} {chain : Option Refusal → Option Refusal} {ok test : Bool} {w : Refusal} (why : Refusal) (rest : Option Refusal) → Chained (Ok tt) chain
+    → a ≡ checked_of (require ok why passed) → ok ≡ test → a ≡ Err w → Err w ≡ checked_of (chain (require test why rest))
+stopped {w} why rest c e p h = let more : Chained (Err w) (λ r. _) = chained_more why c (sym h ∙ e) p in ap checked_of (more.behind rest)
+
+-- the checks so far passed, and the last call decides
+pub decided : {a : Checked} {chain : Option Refusal → Option Refusal} (o : Option Refusal) → Chained (Ok tt) chain → a ≡ checked_of o → a ≡ checked_of (chain o)
+decided o c e = e ∙ ap checked_of (c.behind o)
