@@ -7,7 +7,6 @@ use Rattle.refusal.specs.Number.{refusal_at, refusal_plain}
 use Rattle.refusal.specs.declared.Reason.{Reason}
 use Rattle.refusal.specs.declared.Reason.TheVariants.{Item, Size}
 use Rattle.refusal.specs.declared.Refusal.{Refusal}
-use Rattle.refusal.specs.declared.Checked.TheVariants.{Passed, Refused}
 use Rattle.items.specs.declared.ItemPlace.{ItemPlace}
 use Rattle.items.specs.Items.{Row, items, part}
 
@@ -25,10 +24,18 @@ refused_in bytes (some i) =
 unfoldable pub item_refusal : ℕ → List ℕ → Option Refusal
 item_refusal number bytes = refused_in bytes (row_of number items)
 
--- its first byte, counted from 1, and its length; no such item is refused, with 0 and 0 beside the refusal
+-- no such item
+unfoldable pub place_refused_in : Option Row → Option Refusal
+place_refused_in none = some (refusal_plain Item)
+place_refused_in (some i) = passed
+
+unfoldable pub place_refusal : ℕ → Option Refusal
+place_refusal number = place_refused_in (row_of number items)
+
+-- its first byte, counted from 1, and its length; 0 and 0 where there is no such item
 unfoldable pub place_in : Option Row → ItemPlace
-place_in none = record { checked = Refused (refusal_plain Item); first = 0; length = 0 }
-place_in (some i) = record { checked = Passed; first = i.first; length = i.long }
+place_in none = record { first = 0; length = 0 }
+place_in (some i) = record { first = i.first; length = i.long }
 
 unfoldable pub place_of : ℕ → ItemPlace
 place_of number = place_in (row_of number items)
