@@ -1,16 +1,15 @@
 -- RS(254,248): the divisor G, the parity of the data, what the division leaves of a block, and the codewords, which are 248 data bytes and
 -- their parity.
 -- Assumes nothing.
-use Rattle.std.specs.Prelude.{◌≡◌, List, [], ◌∷◌, ◌++◌, ℕ, eqb, length, take, drop}
+use Rattle.std.specs.Prelude.{◌≡◌, List, [], ◌∷◌, ◌++◌, ℕ, eqb, length, take, drop, Result}
 use Rattle.std.proofs.Math.Option.{Option}
 use Rattle.basics.specs.Below.{Bytes}
-use Rattle.refusal.specs.Chain.{require, passed, left_by}
-use Rattle.refusal.specs.Checked.{checked_of}
+use Rattle.refusal.specs.Chain.{require, passed}
+use Rattle.refusal.specs.Checked.{answer_of}
 use Rattle.refusal.specs.Number.{refusal_plain}
 use Rattle.refusal.specs.declared.Reason.TheVariants.{Size}
 use Rattle.refusal.specs.declared.Refusal.{Refusal}
 use Rattle.gf256.specs.Field.{◌⊕◌}
-use Rattle.rs.specs.declared.Divided.{Divided}
 use Rattle.rs.specs.Polynomial.{◌⊞◌, scale, zeros}
 
 -- the coefficients of G below its x^6
@@ -40,13 +39,13 @@ parity_of d = remainder divisor_bytes (zeros 6) d
 unfoldable pub block_refusal : List ℕ → Option Refusal
 block_refusal block = require (eqb (length block) 254) (refusal_plain Size) passed
 
--- what the division leaves of a block: the parity of the first 248 bytes, with the last six added; beside a refusal, six zeros
+-- what the division leaves of a block: the parity of the first 248 bytes, with the last six added
 unfoldable pub left_of : List ℕ → List ℕ
-left_of block = left_by (block_refusal block) (parity_of (take 248 block) ⊞ drop 248 block) (zeros 6)
+left_of block = parity_of (take 248 block) ⊞ drop 248 block
 
 -- the answer
-unfoldable pub divided_of : List ℕ → Divided
-divided_of block = record { checked = checked_of (block_refusal block); left = left_of block }
+unfoldable pub divided_of : List ℕ → Result (List ℕ) Refusal
+divided_of block = answer_of (block_refusal block) (left_of block)
 
 -- 254 bytes of which the last six are the parity of the 248 before them
 pub record Codeword (w : List ℕ) : Type 0 where

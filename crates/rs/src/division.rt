@@ -2,10 +2,10 @@
 // lowest, and a table holds the 256 multiples of the divisor so packed. The table is filled at each call, since a constant array is
 // built anew at each use. The product with x plus a root, of which the divisor is made, doubles as the rows of the table do, so it
 // stands here too.
-ghost use Rattle.std.specs.Prelude.{◌≡◌, [], ◌∷◌, ◌%◌, ◌<◌, ◌≤◌, length, take, drop};
+ghost use Rattle.std.specs.Prelude.{◌≡◌, [], ◌∷◌, ◌%◌, ◌<◌, ◌≤◌, length, drop};
 ghost use Rattle.gf256.specs.Field.{◌⊕◌, ◌⊗◌, pow};
-ghost use Rattle.rs.specs.Polynomial.{◌⊞◌, scale, ◌⊠◌};
-ghost use Rattle.rs.specs.Codeword.{divisor_bytes, parity_of};
+ghost use Rattle.rs.specs.Polynomial.{scale, ◌⊠◌};
+ghost use Rattle.rs.specs.Codeword.{divisor_bytes, parity_of, left_of};
 ghost use Rattle.rs.specs.Packed.{pack as packed, unpack as unpacked, turn as turned, Multiples, Extended};
 
 // A byte as a number.
@@ -170,7 +170,7 @@ pub(crate) fn parity(bytes: &[u8]) -> u64
 // What the division leaves of a block of 254 bytes, packed: the parity of the first 248, with the last six added.
 pub(crate) fn remainder(block: &[u8]) -> u64
     requires { length block.now ≡ 254 }
-    ensures { result ≡ packed (parity_of (take 248 block.now) ⊞ drop 248 block.now) }
+    ensures { result ≡ packed (left_of block.now) }
 {
     let last = [
         block[248], block[249], block[250], block[251], block[252], block[253],

@@ -9,7 +9,7 @@ ghost use Rattle.std.specs.Prelude.{◌≡◌};
 ghost use Rattle.rs.specs.Codeword.{divisor_bytes, parity_of, divided_of};
 ghost use Rattle.rs.specs.Check.{verdict_of};
 
-use refusal::{Checked, Reason};
+use refusal::{Reason, Refusal};
 
 // The coefficients of the divisor G, from that of x^5 down; that of x^6 is 1. They are worked out from the roots of G, the powers 0 to 5
 // of 2: the product starts as 1 and is multiplied by x + 2^j for each j. After two turns it is (x + 1)(x + 2) = x^2 + 3x + 2; in the
@@ -34,46 +34,20 @@ pub fn parity(bytes: &[u8]) -> [u8; 6]
     division::unpack(division::parity(bytes))
 }
 
-// What a division answers: six bytes, zeros where it is refused.
-#[derive(Clone, Copy)]
-pub struct Divided {
-    pub checked: Checked,
-    pub left: [u8; 6],
-}
-
 // What the division leaves of a block of 254 bytes: six zeros exactly where it is a codeword. Another number of bytes is refused.
-pub fn remainder(block: &[u8]) -> Divided
+#[tactic(auto, unfolding(crate::specs::Codeword::divided_of, crate::specs::Codeword::block_refusal))]
+pub fn remainder(block: &[u8]) -> Result<[u8; 6], Refusal>
     ensures { result ≡ divided_of block.now }
 {
-    if block.len() != 254 {
-        return Divided {
-            checked: Checked::Refused(refusal::plain(Reason::Size)),
-            left: [0; 6],
-        };
-    }
-    Divided {
-        checked: Checked::Passed,
-        left: division::unpack(division::remainder(block)),
-    }
-}
-
-// What the check answers: yes, the block is a codeword; no, it is none; or it is refused.
-#[derive(Clone, Copy)]
-pub enum Verdict {
-    Yes,
-    No,
-    Refused(refusal::Refusal),
+    refusal::require(block.len() == 254, refusal::plain(Reason::Size))?;
+    Ok(division::unpack(division::remainder(block)))
 }
 
 // Is a block of 254 bytes a codeword? It is where the division leaves nothing of it. Another number of bytes is refused.
-pub fn check_codeword(block: &[u8]) -> Verdict
+#[tactic(auto, unfolding(crate::specs::Check::verdict_of, crate::specs::Codeword::block_refusal))]
+pub fn check_codeword(block: &[u8]) -> Result<bool, Refusal>
     ensures { result ≡ verdict_of block.now }
 {
-    if block.len() != 254 {
-        return Verdict::Refused(refusal::plain(Reason::Size));
-    }
-    if division::remainder(block) == 0 {
-        return Verdict::Yes;
-    }
-    Verdict::No
+    refusal::require(block.len() == 254, refusal::plain(Reason::Size))?;
+    Ok(division::remainder(block) == 0)
 }

@@ -5,15 +5,13 @@ use mathlib.Core.Path.{◌≡◌, refl, sym, ap, ap₂, ◌∙◌}
 use mathlib.Core.List.{List, ◌++◌}
 use mathlib.Core.Logic.{⊎_elim}
 use mathlib.Core.Option.{none, some}
+use Rattle.std.specs.Prelude.{Ok, Err}
 use Prim.Native.Nat.{ℕ, ◌≤◌, ◌<◌}
 use native.Mathlib.Omega.{arith}
 use lib.ListN.{length, take, drop, length-append, length-drop, length-replicate, take-append-drop}
 use lib.Seq.{drop_at, length-take-le}
 use borrow.Author.Tests.{eq-eqb, ne_eqb, eqb-true}
-use Rattle.refusal.specs.Checked.{checked_of}
 use Rattle.refusal.specs.Number.{refusal_plain}
-use Rattle.refusal.specs.declared.Checked.{Checked}
-use Rattle.refusal.specs.declared.Checked.TheVariants.{Passed, Refused}
 use Rattle.refusal.specs.declared.Reason.TheVariants.{Size}
 use Rattle.refusal.proofs.Laws.Chain.{require-passed}
 use Rattle.gf256.specs.Field.{◌⊕◌, ◌⊗◌, pow}
@@ -22,7 +20,6 @@ use Rattle.gf256.proofs.Laws.Product.{⊗-zero-r}
 use Rattle.basics.proofs.Laws.Test.{lt-or-le}
 use Rattle.rs.specs.Polynomial.{value_at, ◌⊞◌, zeros, ◌⊠◌}
 use Rattle.rs.specs.Codeword.{G, parity_of, left_of, block_refusal, divided_of, Codeword}
-use Rattle.rs.specs.declared.Divided.{Divided}
 use Rattle.basics.specs.Below.{Bytes}
 use Rattle.rs.specs.Decode.{changes}
 use Rattle.rs.proofs.Laws.Polynomial.{length-⊞, ⊞-self, ⊞-zero-eq, value-⊞, value-append, value-above, value-moved, length-⊠, value-⊠}
@@ -74,25 +71,15 @@ block_refused l n = rw (ne_eqb _ _ n) refl
 
 -- ---- what the division leaves of a block
 
-pub left-short : (l : List ℕ) → (length l ≡ 254 → ⊥) → left_of l ≡ zeros 6
-unfolding left_of
-left-short l n = rw (block_refused l n) refl
-
-pub left-long : (l : List ℕ) → length l ≡ 254 → left_of l ≡ parity_of (take 248 l) ⊞ drop 248 l
-unfolding left_of
-left-long l n = rw (block-passes l n) refl
-
 -- what a division answers
 module _ (l : List ℕ) where
-  answered : (a : Checked) (rest : List ℕ) → a ≡ checked_of (block_refusal l) → rest ≡ left_of l → record { checked = a; left = rest } ≡ divided_of l
+  pub divided-short : (length l ≡ 254 → ⊥) → divided_of l ≡ Err (refusal_plain Size)
   unfolding divided_of
-  answered a rest e f = ap₂ (λ (x : Checked) (y : List ℕ). let d : Divided = record { checked = x; left = y } in d) e f
+  divided-short n = rw (block_refused l n) refl
 
-  pub divided-short : (length l ≡ 254 → ⊥) → record { checked = Refused (refusal_plain Size); left = zeros 6 } ≡ divided_of l
-  divided-short n = answered _ _ (rw (block_refused l n) refl) (sym (left-short l n))
-
-  pub divided-long : (rest : List ℕ) → length l ≡ 254 → rest ≡ left_of l → record { checked = Passed; left = rest } ≡ divided_of l
-  divided-long rest n e = answered _ rest (rw (block-passes l n) refl) e
+  pub divided-long : length l ≡ 254 → divided_of l ≡ Ok (left_of l)
+  unfolding divided_of
+  divided-long n = rw (block-passes l n) refl
 
 module _ (l : List ℕ) (n : length l ≡ 254) where
   pub last-six : length (drop 248 l) ≡ 6
@@ -101,26 +88,30 @@ module _ (l : List ℕ) (n : length l ≡ 254) where
   pub as_long : length (parity_of (take 248 l)) ≡ length (drop 248 l)
   as_long = parity-length (take 248 l) ∙ sym last-six
 
-  pub left-six : length (parity_of (take 248 l) ⊞ drop 248 l) ≡ 6
+  pub left-six : length (left_of l) ≡ 6
+  unfolding left_of
   left-six = length-⊞ _ _ as_long ∙ last-six
 
   -- it has the values of the block
   pub left-value : Bytes l → (j : ℕ) → j < 6 → value_at (pow 2 j) (left_of l) ≡ value_at (pow 2 j) l
+  unfolding left_of
   left-value b j h =
-      ap (value_at (pow 2 j)) (left-long l n) ∙ remainder-value (take 248 l) (drop 248 l) last-six (take_below 256 248 l b) j h
+      remainder-value (take 248 l) (drop 248 l) last-six (take_below 256 248 l b) j h
       ∙ ap (value_at (pow 2 j)) (take-append-drop 248 l)
 
   -- it is 0 exactly where the block is a codeword
   pub zero-codeword : Bytes l → left_of l ≡ zeros 6 → Codeword l
+  unfolding left_of
   zero-codeword b z = record {
     long = n;
     bytes = b;
-    parity = sym (⊞-zero-eq _ _ as_long (sym (left-long l n) ∙ z ∙ ap (λ (k : ℕ). zeros k) (sym last-six)));
+    parity = sym (⊞-zero-eq _ _ as_long (z ∙ ap (λ (k : ℕ). zeros k) (sym last-six)));
   }
 
 pub codeword-zero : (l : List ℕ) → Codeword l → left_of l ≡ zeros 6
+unfolding left_of
 codeword-zero l C =
-    left-long l C.long ∙ ap (λ (m : List ℕ). parity_of (take 248 l) ⊞ m) C.parity ∙ ⊞-self _
+    ap (λ (m : List ℕ). parity_of (take 248 l) ⊞ m) C.parity ∙ ⊞-self _
     ∙ ap (λ (k : ℕ). zeros k) (parity-length (take 248 l))
 
 -- ---- codewords are what vanishes, and no two are near each other

@@ -24,7 +24,7 @@ use Rattle.rs.proofs.Laws.Polynomial.{length-scale, ⊞-bytes, scale-bytes}
 use Rattle.basics.proofs.Laws.Below.{at-below, append-below, drop-below}
 use Rattle.basics.proofs.Laws.Parts.{entries, part-entries, all-entries}
 use Rattle.rs.proofs.Laws.Division.{parity-length, parity-bytes, parity-step}
-use Rattle.rs.proofs.Laws.Codeword.{left-long, last-six, as_long, left-six}
+use Rattle.rs.proofs.Laws.Codeword.{last-six, as_long, left-six}
 
 -- ---- sums
 
@@ -136,7 +136,8 @@ look_up g t s j b e = ap (λ (n : ℕ). get_or t n 0) e ∙ b (s % 256) (mod-lt 
 
 -- the parity of the first 248 and the last six, one by one, add up to the remainder
 pub remainder-sum : (l : List ℕ) → length l ≡ 254 → ((i : ℕ) → get_or l i 0 < 256)
-    → pack (parity_of (take 248 l)) ⊕ pack (entries 6 248 l) ≡ pack (parity_of (take 248 l) ⊞ drop 248 l)
+    → pack (parity_of (take 248 l)) ⊕ pack (entries 6 248 l) ≡ pack (left_of l)
+unfolding left_of
 remainder-sum l e h =
     let m : List ℕ = drop 248 l in
     let p : List ℕ = parity_of (take 248 l) in
@@ -144,11 +145,13 @@ remainder-sum l e h =
     ap (λ (k : List ℕ). pack p ⊕ pack k) (sym (part-entries 6 248 l (omega arith)) ∙ take_all 6 m (omega (arith, last-six l e)))
     ∙ sym (pack-⊞ p m (as_long l e) (parity-bytes (take 248 l)) b)
 
+left-bytes : (l : List ℕ) → Bytes l → Bytes (left_of l)
+unfolding left_of
+left-bytes l b = ⊞-bytes _ _ (parity-bytes (take 248 l)) (drop-below 256 248 l b)
+
 -- and its six bytes are what the division leaves
-pub left-unpacked : (l : List ℕ) → length l ≡ 254 → Bytes l → unpack 6 (pack (parity_of (take 248 l) ⊞ drop 248 l)) ≡ left_of l
-left-unpacked l e b =
-    unpack-pack 6 _ (left-six l e) (⊞-bytes _ _ (parity-bytes (take 248 l)) (drop-below 256 248 l b))
-    ∙ sym (left-long l e)
+pub left-unpacked : (l : List ℕ) → length l ≡ 254 → Bytes l → unpack 6 (pack (left_of l)) ≡ left_of l
+left-unpacked l e b = unpack-pack 6 (left_of l) (left-six l e) (left-bytes l b)
 
 -- ---- a packed number is 0 exactly where its bytes are
 

@@ -1,25 +1,19 @@
 -- `rs::check_codeword` meets its contract: the packed remainder is 0 exactly where the block is a codeword.
 -- Assumes nothing.
 use mathlib.Core.Path.{sym, ap, ◌∙◌}
-use native.Mathlib.Omega.{arith}
+use Rattle.std.specs.Prelude.{Ok}
+use mathlib.Core.Bool.{Bool}
 use Rattle.basics.proofs.Laws.Below.{at-below}
-use Rattle.rs.specs.declared.Verdict.TheVariants.{Refused}
-use Rattle.rs.proofs.Laws.Check.{short-refused, nothing-yes, something-no}
+use Rattle.refusal.proofs.Laws.Chain.{told}
+use Rattle.rs.specs.Codeword.{block_refusal}
+use Rattle.rs.proofs.Laws.Codeword.{passes-block}
+use Rattle.rs.proofs.Laws.Check.{answered, nothing-left}
 use Rattle.rs.proofs.check_codeword.Goals as goal
 
-pub returns-then-block-ne254 : goal.returns-then-block-ne254
-returns-then-block-ne254 c = ap Refused c.plain.ensures ∙ sym (short-refused c.args.block.now c.if-block-ne254.true)
-
-pub returns-then-remainder-eq0 : goal.returns-then-remainder-eq0
-returns-then-remainder-eq0 c =
-    let l = c.args.block.now in
-    sym
-    (nothing-yes l c.if-block-ne254.false (at-below 256 l (λ i. (c.type_inv.block i).fits))
-    (omega (arith, c.remainder.ensures, c.if-remainder-eq0.true)))
-
 pub returns : goal.returns
+unfolding block_refusal
 returns c =
     let l = c.args.block.now in
-    sym
-    (something-no l c.if-block-ne254.false (at-below 256 l (λ i. (c.type_inv.block i).fits))
-    (λ z. omega (arith, c.remainder.ensures, c.if-remainder-eq0.false, z)))
+    let long = passes-block l (told (block_refusal l) _ _ (rw c.plain.ensures at c.require.ensures) c.in_ok-require.was) in
+    let yes = nothing-left l long (at-below 256 l (λ i. (c.type_inv.block i).fits)) in
+    rw c.remainder.ensures (ap (λ (b : Bool). Ok b) yes ∙ sym (answered l long))
