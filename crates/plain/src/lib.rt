@@ -12,25 +12,23 @@ ghost use Rattle.rs.specs.Decode.{repaired, decode_refusal};
 ghost use Rattle.refusal.specs.Checked.{checked_of};
 ghost use Rattle.plain.specs.Plain.{NoneFrom, FirstOf, First, Settles, patched, mended};
 
-use refusal::{Checked, Reason};
+use refusal::{Reason, Refusal};
 use solver::Errors;
 
 // Repairs 254 delivered bytes in place: they become the codeword that differs from what was delivered in at most three bytes. A refusal,
 // of another number of bytes or since there is no such codeword, leaves them as they were.
-pub fn repair(block: &mut [u8]) -> Checked
+pub fn repair(block: &mut [u8]) -> Result<(), Refusal>
     ensures { (result ≡ checked_of (decode_refusal block.old)) × (block.new ≡ repaired block.old) }
 {
-    if block.len() != 254 {
-        return Checked::Refused(refusal::plain(Reason::Size));
-    }
+    refusal::require(block.len() == 254, refusal::plain(Reason::Size))?;
     let wheel = gf256::wheel();
     let logs = gf256::logs();
     let e = first_places(&wheel, &logs, solver::sums(&wheel, &logs, block));
     if !e.explained {
-        return Checked::Refused(refusal::plain(Reason::BeyondRepair));
+        return Err(refusal::plain(Reason::BeyondRepair));
     }
     mend(block, e);
-    Checked::Passed
+    Ok(())
 }
 
 // Adds the errors to what was delivered: since a sum is a difference too, this takes them out.

@@ -2,29 +2,22 @@
 -- three places or fewer have them there is no such codeword.
 -- Assumes nothing.
 use mathlib.Core.Path.{◌≡◌, refl, sym, ap, ap₂, ◌∙◌, subst}
-use mathlib.Core.Bool.{Bool, true, false}
+use mathlib.Core.Bool.{true, false}
 use mathlib.Core.List.{List, [], ◌∷◌, ◌++◌, map, append_assoc, append-nil}
 use Prim.Native.Nat.{ℕ, zero, suc, ◌+◌, ◌-◌, ◌<◌, ◌≤◌}
 use native.Mathlib.Omega.{arith}
 use lib.ListN.{length, get_or, length-set}
 use Rattle.basics.specs.Below.{Below, Bytes}
-use Rattle.refusal.specs.Chain.{require, passed}
-use Rattle.refusal.specs.Checked.{checked_of}
-use Rattle.refusal.specs.Number.{refusal_plain}
-use Rattle.refusal.specs.declared.Checked.{Checked}
-use Rattle.refusal.specs.declared.Checked.TheVariants.{Refused}
-use Rattle.refusal.specs.declared.Reason.TheVariants.{Size, BeyondRepair}
-use Rattle.refusal.specs.declared.Refusal.{Refusal}
 use Rattle.gf256.specs.Field.{◌⊕◌, ◌⊗◌, pow}
 use Rattle.gf256.specs.PowerSum.{Term, power_sum}
 use Rattle.gf256.proofs.Laws.Sum.{⊕-assoc, ⊕-self, ⊕-zero-l, ⊕-zero-r}
 use Rattle.gf256.proofs.Laws.Product.{pow-swap}
 use Rattle.rs.specs.Polynomial.{value_at, ◌⊞◌}
-use Rattle.rs.specs.Decode.{changes, repaired, decode_refusal}
+use Rattle.rs.specs.Decode.{changes}
 use Rattle.rs.proofs.Laws.Polynomial.{length-⊞, ⊞-bytes, value-⊞, value_set}
 use Rattle.rs.proofs.Laws.Distance.{weight, terms, terms-sum, changes-weight, changes-self, changes-set}
-use Rattle.rs.proofs.Laws.Codeword.{block_refused, codeword-vanishes, vanishing-codeword}
-use Rattle.rs.proofs.Laws.Decode.{Answer, some-answer, none-answer, short-answer, decode-complete, decode-none, decode-decides}
+use Rattle.rs.proofs.Laws.Codeword.{codeword-vanishes, vanishing-codeword}
+use Rattle.rs.proofs.Laws.Decode.{Answer, some-answer, none-answer, decode-complete, decode-none}
 use Rattle.plain.specs.Plain.{Sums, element, terms_at, Unexplained, NoneFrom, Right, patched, mended}
 use Rattle.plain.specs.declared.solver.Errors.{Errors}
 
@@ -132,16 +125,3 @@ module _ (block s : List ℕ) (long : length block ≡ 254) (bytes : Bytes block
       (λ m i.
       S m i ∙ sym (⊕-zero-l _) ∙ ap (λ (v : ℕ). v ⊕ value_at (pow 2 m) block) (sym (codeword-vanishes c C m i))
       ∙ sym (value-⊞ (pow 2 m) c block n) ∙ sym (terms-sum d m) ∙ ap (λ (ts : List Term). power_sum ts m) (terms-are 0 d k))))
-
--- ---- what repair says
-
--- another number of bytes than 254 is refused
-pub refused-short : (l : List ℕ) (why : Refusal) → (length l ≡ 254 → ⊥) → why ≡ refusal_plain Size → (Refused why ≡ checked_of (decode_refusal l)) × (l ≡ repaired l)
-unfolding decode_refusal
-refused-short l why n e = (rw (block_refused l n) (ap Refused e), (short-answer l n).left)
-
--- of 254 bytes, it says whether there is a codeword near, and leaves it
-pub answered : (l after : List ℕ) (r : Bool) (a : Checked) → length l ≡ 254 → Answer l r after → a ≡ checked_of (require r (refusal_plain BeyondRepair) passed)
-    → (a ≡ checked_of (decode_refusal l)) × (after ≡ repaired l)
-answered l after r a n A e =
-    (e ∙ ap (λ (t : Bool). checked_of (require t (refusal_plain BeyondRepair) passed)) A.said ∙ sym (ap checked_of (decode-decides l n)), A.left)

@@ -4,29 +4,39 @@ use mir.Val.{Fits}
 use mir.Syntax.{w8}
 use lib.ListN.{get_or}
 use borrow.Author.Rules.{rules}
-use mathlib.Core.Path.{refl, ap}
 use mathlib.Core.Bool.{true, false}
 use borrow.Author.Tests.{not-true, not-false}
-use Rattle.refusal.specs.declared.Checked.TheVariants.{Refused}
+use Rattle.std.proofs.lemmas.Result.{err_from_is_err_and}
 use Rattle.basics.proofs.Laws.Below.{at-below}
-use Rattle.plain.proofs.Laws.Repair.{found-answer, lost-answer, refused-short, answered}
+use Rattle.refusal.proofs.Laws.Chain.{told}
+use Rattle.rs.specs.Codeword.{block_refusal}
+use Rattle.rs.proofs.Laws.Codeword.{passes-block}
+use Rattle.rs.proofs.Laws.Decode.{size-refused, answered}
+use Rattle.plain.proofs.Laws.Repair.{found-answer, lost-answer}
 use Rattle.plain.proofs.repair.Goals as goal
 
-pub returns-then-block-ne254 : goal.returns-then-block-ne254
-returns-then-block-ne254 c = refused-short c.args.block.now _ c.if-block-ne254.true c.plain.ensures
+pub returns-in_err-require : goal.returns-in_err-require
+unfolding block_refusal
+returns-in_err-require c =
+    let l = c.args.block.now in
+    let p = err_from_is_err_and c.from_residual.result c.from_residual.ensures.1 in
+    rw (p.1, p.2) (size-refused l _ (told (block_refusal l) _ _ (rw c.plain.ensures at c.require.ensures) c.in_err-require.was))
 
 pub returns-then-not-e : goal.returns-then-not-e
+unfolding block_refusal
 returns-then-not-e c =
-    let block = c.args.block.now in
-    answered block block false _ c.if-block-ne254.false
-    (lost-answer block _ c.if-block-ne254.false (at-below 256 block (λ i. let b : Fits w8 (get_or block i 0) = search rules in b.fits)) c.sums.ensures (c.first_places-e.ensures.none (not-true _ c.if-not-e.true)))
-    (ap Refused c.plain-then-not-e.ensures)
+    let l = c.args.block.now in
+    let long = passes-block l (told (block_refusal l) _ _ (rw c.plain.ensures at c.require.ensures) c.in_ok-require.was) in
+    rw c.plain-then-not-e.ensures
+    (answered l l false long
+    (lost-answer l _ long (at-below 256 l (λ i. let b : Fits w8 (get_or l i 0) = search rules in b.fits)) c.sums.ensures (c.first_places-e.ensures.none (not-true _ c.if-not-e.true))))
 
 pub returns : goal.returns
+unfolding block_refusal
 returns c =
-    let block = c.args.block.now in
+    let l = c.args.block.now in
     let after = c.mend.new.block in
-    answered block after true _ c.if-block-ne254.false
-    (found-answer block _ c.if-block-ne254.false (at-below 256 block (λ i. let b : Fits w8 (get_or block i 0) = search rules in b.fits)) c.sums.ensures _ after (c.first_places-e.ensures.right (not-false _ c.if-not-e.false))
+    let long = passes-block l (told (block_refusal l) _ _ (rw c.plain.ensures at c.require.ensures) c.in_ok-require.was) in
+    answered l after true long
+    (found-answer l _ long (at-below 256 l (λ i. let b : Fits w8 (get_or l i 0) = search rules in b.fits)) c.sums.ensures _ after (c.first_places-e.ensures.right (not-false _ c.if-not-e.false))
     (at-below 256 after (λ i. (c.type_inv.block i).fits)) c.mend.ensures)
-    refl

@@ -17,10 +17,12 @@ use Rattle.basics.specs.Each.{all, same}
 use Rattle.basics.proofs.Laws.Test.{both_true, never, lt-or-le}
 use Rattle.basics.proofs.Laws.Each.{same-equal, same_self}
 use Rattle.refusal.specs.Chain.{require, passed}
+use Rattle.std.specs.Prelude.{Err}
+use Rattle.refusal.specs.Checked.{checked_of}
 use Rattle.refusal.specs.Number.{refusal_plain}
 use Rattle.refusal.specs.declared.Reason.TheVariants.{BeyondRepair}
 use Rattle.refusal.specs.declared.Refusal.{Refusal}
-use Rattle.rs.specs.Codeword.{Codeword}
+use Rattle.rs.specs.Codeword.{block_refusal, Codeword}
 use Rattle.basics.specs.Below.{Bytes}
 use Rattle.basics.proofs.Laws.Below.{all-below, below_all}
 use Rattle.rs.specs.Decode.{changes, Within, is_byte, is_codeword, fronted, near, first_codeword, given, decode, repairable, repaired, decode_refusal}
@@ -239,3 +241,15 @@ refused-keeps l why r = go (decode l) refl
         let W = decode-sound l c e in
         let y : repairable l ≡ true = sym (some-answer l c e).said in
         absurd (some-ne-none why (sym r ∙ decode-decides l (sym W.long ∙ W.word.long) ∙ ap (λ (b : Bool). require b (refusal_plain BeyondRepair) passed) y))
+
+-- another number of bytes than 254 is refused
+pub size-refused : (l : List ℕ) (why : Refusal) → block_refusal l ≡ some why → (Err why ≡ checked_of (decode_refusal l)) × (l ≡ repaired l)
+unfolding decode_refusal
+size-refused l why e =
+    let o : decode_refusal l ≡ some why = rw e refl in (sym (ap checked_of o), sym (refused-keeps l why o))
+
+-- and of 254 bytes it is said whether there is such a codeword
+pub answered : (l after : List ℕ) (r : Bool) → length l ≡ 254 → Answer l r after
+    → (checked_of (require r (refusal_plain BeyondRepair) passed) ≡ checked_of (decode_refusal l)) × (after ≡ repaired l)
+answered l after r n A =
+    (ap (λ (t : Bool). checked_of (require t (refusal_plain BeyondRepair) passed)) A.said ∙ sym (ap checked_of (decode-decides l n)), A.left)
