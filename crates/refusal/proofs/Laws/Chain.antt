@@ -9,7 +9,9 @@ use Prim.Native.Nat.{ℕ}
 use lib.Dec.{eqb}
 use borrow.Author.Tests.{not-true, not-false, eq-eqb}
 use Rattle.refusal.specs.Chain.{require, passed, next}
-use Rattle.std.specs.Prelude.{Ok, Err}
+use Rattle.std.specs.Prelude.{Result, Ok, Err}
+use Rattle.std.specs.Result.{IsErrAnd}
+use Rattle.std.proofs.lemmas.Result.{err_from_is_err_and}
 use Rattle.refusal.specs.Checked.{Checked, answer_of, checked_of, refusal_in}
 use Rattle.refusal.specs.declared.Refusal.{Refusal}
 use Rattle.refusal.specs.Number.{number_of}
@@ -174,15 +176,20 @@ pub check-failed : (t : Bool) (why w : Refusal) → Err w ≡ checked_of (requir
 check-failed true why w e = absurd (passed-refused tt w (sym e))
 check-failed false why w e = (refl, some-injective w why (ap refusal_in e))
 
+-- what a `?` hands on
+pub handed-on : {A : Type 0} {w : Refusal} (r : Result A Refusal) → IsErrAnd r (λ (y : Refusal). y ≡ w) → r ≡ Err w
+handed-on r h = let p = err_from_is_err_and r h in p.1 ∙ ap Err p.2
+
 -- the checks so far and one more passed
-pub went-on : {a : Checked} {chain : Option Refusal → Option Refusal} {ok test : Bool} (why : Refusal) → Chained (Ok tt) chain
-    → a ≡ checked_of (require ok why passed) → ok ≡ test → a ≡ Ok tt → Chained (Ok tt) (λ rest. chain (require test why rest))
-went-on why c e p h = chained_more why c (sym h ∙ e) p
+pub went-on : {a : Checked} {chain : Option Refusal → Option Refusal} {ok test : Bool} {given why : Refusal} → Chained (Ok tt) chain
+    → a ≡ checked_of (require ok given passed) → ok ≡ test → given ≡ why → a ≡ Ok tt → Chained (Ok tt) (λ rest. chain (require test why rest))
+went-on {why} c e p g h = chained_more why c (sym h ∙ rw (← g) e) p
 
 -- the checks so far passed, and the next one failed: that is the answer, whatever follows
-pub stopped : {a : Checked} {chain : Option Refusal → Option Refusal} {ok test : Bool} {w : Refusal} (why : Refusal) (rest : Option Refusal) → Chained (Ok tt) chain
-    → a ≡ checked_of (require ok why passed) → ok ≡ test → a ≡ Err w → Err w ≡ checked_of (chain (require test why rest))
-stopped {w} why rest c e p h = let more : Chained (Err w) (λ r. _) = chained_more why c (sym h ∙ e) p in ap checked_of (more.behind rest)
+pub stopped : {a : Checked} {chain : Option Refusal → Option Refusal} {ok test : Bool} {given why w : Refusal} (rest : Option Refusal) → Chained (Ok tt) chain
+    → a ≡ checked_of (require ok given passed) → ok ≡ test → given ≡ why → a ≡ Err w → Err w ≡ checked_of (chain (require test why rest))
+stopped {why} {w} rest c e p g h =
+    let more : Chained (Err w) (λ r. _) = chained_more why c (sym h ∙ rw (← g) e) p in ap checked_of (more.behind rest)
 
 -- the checks so far passed, and the last call decides
 pub decided : {a : Checked} {chain : Option Refusal → Option Refusal} (o : Option Refusal) → Chained (Ok tt) chain → a ≡ checked_of o → a ≡ checked_of (chain o)

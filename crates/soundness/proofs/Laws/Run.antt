@@ -20,20 +20,19 @@ use Rattle.refusal.specs.declared.Reason.TheVariants.{Wide, Parity, Size}
 use Rattle.refusal.specs.declared.Refusal.{Refusal}
 use Rattle.refusal.proofs.Laws.Chain.{next-passed, passed-other, other-number, Without, without-passed, without-refused}
 use Rattle.refusal.proofs.Laws.Run.{first-exactly as first-refused, first-without}
-use Rattle.soundness.specs.declared.Soundness.{Soundness}
-use Rattle.soundness.specs.declared.Soundness.TheVariants.{Sound, Unsound, Refused}
+use Rattle.std.specs.Prelude.{Ok, Err, Some, None}
 use Rattle.anc.specs.Word.{is_sound}
 use Rattle.anc.specs.Words.{narrow}
-use Rattle.soundness.specs.Check.{soundness_of, word_refusal, unsound_at, unsound_from, words_refusal, FirstUnsound}
+use Rattle.soundness.specs.Check.{Soundness, soundness_of, word_refusal, unsound_at, unsound_from, words_refusal, FirstUnsound}
 use Rattle.soundness.proofs.Laws.Check.{sound-checked, checked-sound, narrow-unrefused, refused-wide}
 
 -- ---- which words are refused
 
 -- only a sound word is not refused
-refused_none : (n : ℕ) (s : Soundness) → word_refusal n s ≡ none → s ≡ Sound
-refused_none n Sound e = refl
-refused_none n (Unsound wrong) e = absurd (some-ne-none _ e)
-refused_none n (Refused why) e = absurd (some-ne-none why e)
+refused_none : (n : ℕ) (s : Soundness) → word_refusal n s ≡ none → s ≡ Ok None
+refused_none n (Ok None) e = refl
+refused_none n (Ok (Some wrong)) e = absurd (some-ne-none _ e)
+refused_none n (Err why) e = absurd (some-ne-none why e)
 
 -- nothing is refused exactly where each word is sound
 pub sound-passed : (n : ℕ) (words : List ℕ) → all is_sound words ≡ true → unsound_from n words ≡ none
@@ -54,9 +53,9 @@ passed-sound n (w ∷ words) e =
 module _ (m : ℕ) (seven : eqb 7 m ≡ false) (two : eqb 2 m ≡ false) where
   refused-without : (n w : ℕ) (s : Soundness) → soundness_of w ≡ s → Without m (word_refusal n s)
   unfolding number_of
-  refused-without n w Sound e = without-passed
-  refused-without n w (Unsound wrong) e = without-refused _ seven
-  refused-without n w (Refused why) e = without-refused why (rw (refused-wide w why e) two)
+  refused-without n w (Ok None) e = without-passed
+  refused-without n w (Ok (Some wrong)) e = without-refused _ seven
+  refused-without n w (Err why) e = without-refused why (rw (refused-wide w why e) two)
 
   pub unsound-without : (n : ℕ) (words : List ℕ) → Without m (unsound_from n words)
   unfolding unsound_from
@@ -66,15 +65,15 @@ module _ (m : ℕ) (seven : eqb 7 m ≡ false) (two : eqb 2 m ≡ false) where
 
 -- 7 is given of a word that is not sound, at its number, and says what is wrong with it
 word-given : (n w : ℕ) (s : Soundness) (wrong : Wrong) (place : ℕ) → soundness_of w ≡ s → word_refusal n s ≡ some (refusal_at (Parity wrong) place)
-    → (s ≡ Unsound wrong) × (place ≡ n)
+    → (s ≡ Ok (Some wrong)) × (place ≡ n)
 unfolding number_of
-word-given n w Sound wrong place d e = absurd (passed-other _ e)
-word-given n w (Unsound other) wrong place d e =
+word-given n w (Ok None) wrong place d e = absurd (passed-other _ e)
+word-given n w (Ok (Some other)) wrong place d e =
     let whole : refusal_at (Parity other) n ≡ refusal_at (Parity wrong) place = cc in
     let reason : Parity other ≡ Parity wrong = ap (λ (r : Refusal). r.reason) whole in
     let same : other ≡ wrong = cc in
-    (ap Unsound same, sym (ap (λ (r : Refusal). r.place) whole))
-word-given n w (Refused no') wrong place d e =
+    (ap (λ (w : Wrong). Ok (Some w)) same, sym (ap (λ (r : Refusal). r.place) whole))
+word-given n w (Err no') wrong place d e =
     let same : no' ≡ refusal_at (Parity wrong) place = cc in
     absurd (other-number (refusal_at (Parity wrong) place) (refusal_plain Wide) refl (sym same ∙ refused-wide w no' d))
 
@@ -113,9 +112,9 @@ unsound-found n (w ∷ words) t f =
     by : (s : Soundness) → soundness_of w ≡ s → w ≤ 1023
         → (all is_sound words ≡ false → (wrong : Wrong) × (place : ℕ) × (unsound_from (suc n) words ≡ some (refusal_at (Parity wrong) place)))
         → (wrong : Wrong) × (place : ℕ) × (next (word_refusal n s) (unsound_from (suc n) words) ≡ some (refusal_at (Parity wrong) place))
-    by Sound d h later = later (sym (ap (λ (b : Bool). b && all is_sound words) (checked-sound w d)) ∙ f)
-    by (Unsound wrong) d h later = (wrong, n, refl)
-    by (Refused why) d h later = absurd (narrow-unrefused w why h d)
+    by (Ok None) d h later = later (sym (ap (λ (b : Bool). b && all is_sound words) (checked-sound w d)) ∙ f)
+    by (Ok (Some wrong)) d h later = (wrong, n, refl)
+    by (Err why) d h later = absurd (narrow-unrefused w why h d)
 
 -- ---- up to 255 of them
 

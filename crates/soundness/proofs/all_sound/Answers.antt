@@ -12,14 +12,14 @@ use Rattle.anc.specs.Word.{is_sound}
 use Rattle.anc.proofs.Laws.Word.{sound-word}
 use Rattle.soundness.proofs.all_sound.Goals as goal
 
-pub loop-i-preserved : goal.loop-i-preserved
-loop-i-preserved c =
-    let l = c.loop-i in
+pub loop-word-preserved : goal.loop-word-preserved
+loop-word-preserved c =
+    let l = c.loop-word in
     let ws : List ℕ = c.args.words.now in
-    let word : ℕ = get_or ws l.i 0 in
-    passing-more is_sound ws l.i l.ok _ l.invariant (omega arith) (ap (◌&&◌ l.ok) (ap (eqb word) c.word_of.ensures ∙ sym (sound-word word)))
+    let word : ℕ = get_or ws l.word-index 0 in
+    passing-more is_sound ws l.word-index l.ok _ l.invariant (omega arith) (ap (◌&&◌ l.ok) (ap (eqb word) c.word_of.ensures ∙ sym (sound-word word)))
 
 pub returns : goal.returns
 returns c =
-    let l = c.loop-i in
-    passing-all is_sound c.args.words.now l.i l.ok l.invariant (omega arith)
+    let l = c.loop-word in
+    passing-all is_sound c.args.words.now l.word-index l.ok l.invariant (omega arith)
