@@ -8,7 +8,7 @@ use mathlib.Core.Logic.{◌↔◌}
 use Prim.Native.Nat.{ℕ}
 use lib.Dec.{eqb}
 use borrow.Author.Tests.{not-true, not-false, eq-eqb}
-use Rattle.refusal.specs.Chain.{require, passed, next}
+use Rattle.refusal.specs.Chain.{require, passed, next, left_by}
 use Rattle.std.specs.Prelude.{Result, Ok, Err}
 use Rattle.std.specs.Result.{IsErrAnd}
 use Rattle.std.proofs.lemmas.Result.{err_from_is_err_and}
@@ -107,6 +107,21 @@ told o a b e d = sym (refusal-in o) ∙ ap refusal_in (sym e ∙ d)
 -- an answer is not both
 pub passed-refused : {A : Type 0} (x : A) (why : Refusal) → Ok x ≡ Err why → ⊥
 passed-refused x why e = passed-other why (ap refusal_in e)
+
+-- an answer that is a refusal, or a value, is so by what the call is refused for
+pub refused-is : {A : Type 0} (o : Option Refusal) (x : A) (w : Refusal) → Err w ≡ answer_of o x → o ≡ some w
+refused-is o x w e = sym (refusal-in-answer o x) ∙ ap refusal_in (sym e)
+
+pub done-is : {A : Type 0} (o : Option Refusal) (x y : A) → Ok y ≡ answer_of o x → o ≡ none
+done-is o x y e = sym (refusal-in-answer o x) ∙ ap refusal_in (sym e)
+
+-- and tells what is left
+module _ {A X : Type 0} (o : Option Refusal) (x : A) (new old : X) where
+  pub kept-by : (w : Refusal) → Err w ≡ answer_of o x → (Err w ≡ answer_of o x) × (old ≡ left_by o new old)
+  kept-by w e = rw (refused-is o x w e) (refl, refl)
+
+  pub left-by : (y : A) → Ok y ≡ answer_of o x → (Ok x ≡ answer_of o x) × (new ≡ left_by o new old)
+  left-by y e = rw (done-is o x y e) (refl, refl)
 
 -- ---- a test that a call answered
 
