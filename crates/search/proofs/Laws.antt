@@ -6,7 +6,6 @@ pub mod Two
 pub mod Three
 pub mod Held
 pub mod Repair
-pub mod Answer
 pub mod Values
 pub mod Marked
 pub mod Split

@@ -17,62 +17,36 @@ ghost use Rattle.search.specs.Values.{AllPlaced};
 ghost use Rattle.search.specs.SearchMarked.{patched_all, FirstRule};
 ghost use Rattle.search.specs.Search.{patched, Damaged};
 
-use refusal::{Checked, Reason, then};
+use refusal::{Reason, Refusal};
 
 // Repairs 254 delivered bytes in place: they become the codeword that differs from what was delivered in at most three bytes. A refusal,
 // of another number of bytes or since there is no such codeword, leaves them as they were.
-pub fn repair(block: &mut [u8]) -> Checked
+pub fn repair(block: &mut [u8]) -> Result<(), Refusal>
     ensures { (result ≡ checked_of (decode_refusal block.old)) × (block.new ≡ repaired block.old) }
 {
-    let divided = rs::remainder(block);
-    let checked = divided.checked;
-    if let Checked::Refused(_) = checked {
-        return checked;
+    let rest = rs::remainder(block)?;
+    if rest == [0; 6] {
+        return Ok(());
     }
-    let rest = divided.left;
-    if is_zero(rest) {
-        return checked;
-    }
-    then(checked, mend(block, rest), Reason::BeyondRepair, 0)
+    refusal::require(mend(block, rest), refusal::plain(Reason::BeyondRepair))
 }
 
 // Repairs 254 delivered bytes in place, with the 254 words that carried them: a word that is not sound marks its byte. They become the codeword with
 // 2e + f at most 6, where f is the number of marks and e that of the other bytes that differ from it; where there is none, the codeword within
 // three bytes. A refusal, of another number of words or bytes or since there is neither, leaves them as they were. A codeword is its own answer, so
 // that no mark is looked for.
-pub fn repair_marked(block: &mut [u8], words: &[u16]) -> Checked
+pub fn repair_marked(block: &mut [u8], words: &[u16]) -> Result<(), Refusal>
     ensures { (result ≡ checked_of (marked_refusal words.now block.old)) × (block.new ≡ marked_leaves words.now block.old) }
 {
-    if words.len() != 254 {
-        return Checked::Refused(refusal::plain(Reason::Size));
+    refusal::require(words.len() == 254, refusal::plain(Reason::Size))?;
+    let rest = rs::remainder(block)?;
+    if rest == [0; 6] {
+        return Ok(());
     }
-    let divided = rs::remainder(block);
-    let checked = divided.checked;
-    if let Checked::Refused(_) = checked {
-        return checked;
-    }
-    let rest = divided.left;
-    if is_zero(rest) {
-        return checked;
-    }
-    then(
-        checked,
+    refusal::require(
         mend_marked(block, rest, words),
-        Reason::BeyondRepair,
-        0,
+        refusal::plain(Reason::BeyondRepair),
     )
-}
-
-// Are the six bytes all 0?
-fn is_zero(rest: [u8; 6]) -> bool
-    ensures { result ≡ same rest (zeros 6) }
-{
-    (rest[0] == 0)
-        & (rest[1] == 0)
-        & (rest[2] == 0)
-        & (rest[3] == 0)
-        & (rest[4] == 0)
-        & (rest[5] == 0)
 }
 
 // Repairs a block that is no codeword, by what the division left of it.

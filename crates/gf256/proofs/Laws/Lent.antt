@@ -131,7 +131,7 @@ two-turns t z P l none = record { long = length-append t (t ++ z) ∙ ap₂ ◌+
     past : (k : ℕ) → 510 ≤ k → get_or (t ++ (t ++ z)) k 0 ≡ 0
     past k h = behind k (omega arith) ∙ get_or-append_right t z 255 (k - 255) 0 P.long (omega arith) ∙ none (k - 255 - 255)
 
-zeros-at : (n i : ℕ) → get_or {A = ℕ} (replicate n 0) i 0 ≡ 0
+pub zeros-at : (n i : ℕ) → get_or {A = ℕ} (replicate n 0) i 0 ≡ 0
 zeros-at zero i = refl
 zeros-at (suc n) zero = refl
 zeros-at (suc n) (suc i) = zeros-at n i

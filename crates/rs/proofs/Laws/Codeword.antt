@@ -13,7 +13,9 @@ use lib.Seq.{drop_at, length-take-le}
 use borrow.Author.Tests.{eq-eqb, ne_eqb, eqb-true}
 use Rattle.refusal.specs.Number.{refusal_plain}
 use Rattle.refusal.specs.declared.Reason.TheVariants.{Size}
-use Rattle.refusal.proofs.Laws.Chain.{require-passed}
+use Rattle.refusal.specs.Checked.{refusal_in}
+use Rattle.refusal.specs.declared.Refusal.{Refusal}
+use Rattle.refusal.proofs.Laws.Chain.{require-passed, refusal-in-answer}
 use Rattle.gf256.specs.Field.{◌⊕◌, ◌⊗◌, pow}
 use Rattle.gf256.proofs.Laws.Sum.{⊕-self, ⊕-zero-l}
 use Rattle.gf256.proofs.Laws.Product.{⊗-zero-r}
@@ -80,6 +82,17 @@ module _ (l : List ℕ) where
   pub divided-long : length l ≡ 254 → divided_of l ≡ Ok (left_of l)
   unfolding divided_of
   divided-long n = rw (block-passes l n) refl
+
+  -- and what its answer tells
+  pub divided-refused : (why : Refusal) → divided_of l ≡ Err why → block_refusal l ≡ some why
+  unfolding divided_of
+  divided-refused why e = sym (refusal-in-answer (block_refusal l) (left_of l)) ∙ ap refusal_in e
+
+  pub divided-passed : (rest : List ℕ) → divided_of l ≡ Ok rest → (length l ≡ 254) × (rest ≡ left_of l)
+  unfolding divided_of
+  divided-passed rest e =
+      let n = passes-block l (sym (refusal-in-answer (block_refusal l) (left_of l)) ∙ ap refusal_in e) in
+      (n, let d = divided-long n in cc)
 
 module _ (l : List ℕ) (n : length l ≡ 254) where
   pub last-six : length (drop 248 l) ≡ 6

@@ -1,28 +1,26 @@
 -- What repair of 254 bytes with the words that carried them is refused for, and what it leaves.
 -- Assumes nothing.
-use mathlib.Core.Path.{◌≡◌, refl, sym, ap, ap₂, ◌∙◌}
+use mathlib.Core.Path.{◌≡◌, refl, sym, ap, ◌∙◌}
 use mathlib.Core.Bool.{Bool, true}
 use mathlib.Core.List.{List}
 use mathlib.Core.Option.{Option, none, some, get_or}
 use Prim.Native.Nat.{ℕ}
-use borrow.Author.Tests.{eq-eqb, ne_eqb}
+use borrow.Author.Tests.{eq-eqb}
+use lib.Dec.{eqb}
 use lib.ListN.{length}
-use Rattle.refusal.specs.Chain.{require, next, passed, left_by}
-use Rattle.refusal.specs.Checked.{checked_of, refusal_in}
-use Rattle.refusal.specs.declared.Checked.{Checked}
-use Rattle.refusal.specs.declared.Checked.TheVariants.{Passed, Refused}
-use Rattle.refusal.proofs.Laws.Chain.{told}
+use Rattle.std.specs.Prelude.{Ok, Err}
+use Rattle.refusal.specs.Chain.{require, passed, left_by}
+use Rattle.refusal.specs.Checked.{checked_of}
+use Rattle.refusal.proofs.Laws.Chain.{require-refused}
 use Rattle.refusal.specs.Number.{refusal_plain}
 use Rattle.refusal.specs.declared.Reason.TheVariants.{Size, BeyondRepair}
 use Rattle.refusal.specs.declared.Refusal.{Refusal}
-use Rattle.rs.specs.Codeword.{block_refusal, divided_of, Codeword}
-use Rattle.rs.specs.declared.Divided.{Divided}
+use Rattle.rs.specs.Codeword.{block_refusal, Codeword}
 use Rattle.rs.specs.Decode.{given}
 use Rattle.rs.specs.Marked.{decode_both, repairable_marked, repaired_marked}
 use Rattle.rs.proofs.Laws.Codeword.{block-passes}
 use Rattle.rs.proofs.Laws.Marked.{both-self}
 use Rattle.search.specs.Marked.{confessed, marked_refusal, marked_leaves}
-use Rattle.search.proofs.Laws.Answer.{checked-is, long-block}
 use Rattle.search.proofs.Laws.First.{AnswerBoth, given-answer}
 
 -- where no codeword is given, what was there stays
@@ -48,36 +46,32 @@ module _ (words block : List ℕ) where
     marked-leaves =
         ap (λ (o : Option Refusal). left_by o (repaired_marked (confessed words) block) block) marked-decides ∙ left-either (decode_both (confessed words) block) block
 
-  -- ---- what repair says and leaves, by what dividing the bytes answered
+  -- ---- what repair says and leaves
 
   -- another number of words is refused
-  pub short-words : (length words ≡ 254 → ⊥) → (Refused (refusal_plain Size) ≡ checked_of (marked_refusal words block)) × (block ≡ marked_leaves words block)
+  pub short-words : (why : Refusal) → require (eqb (length words) 254) (refusal_plain Size) passed ≡ some why
+      → (Err why ≡ checked_of (marked_refusal words block)) × (block ≡ marked_leaves words block)
   unfolding marked_refusal
-  short-words n =
-      let e : marked_refusal words block ≡ some (refusal_plain Size) = rw (ne_eqb (length words) 254 n) in
-      (sym (ap checked_of e), sym (refused-keeps-marked (refusal_plain Size) e))
+  short-words why r =
+      let e : marked_refusal words block ≡ some why = require-refused (eqb (length words) 254) (refusal_plain Size) why _ r in
+      (sym (ap checked_of e), sym (refused-keeps-marked why e))
 
-  module _ (n : length words ≡ 254) (d : Divided) (e : d ≡ divided_of block) where
-    -- the division refuses another number of bytes
-    pub refused-bytes : (why : Refusal) → d.checked ≡ Refused why → (d.checked ≡ checked_of (marked_refusal words block)) × (block ≡ marked_leaves words block)
+  module _ (n : length words ≡ 254) where
+    -- and another number of bytes
+    pub short-bytes : (why : Refusal) → block_refusal block ≡ some why → (Err why ≡ checked_of (marked_refusal words block)) × (block ≡ marked_leaves words block)
     unfolding marked_refusal
-    refused-bytes why r =
-        let o = told (block_refusal block) d.checked (Refused why) (checked-is block d e) r in
-        let m : marked_refusal words block ≡ some why = rw (eq-eqb (length words) 254 n, o) in
-        (r ∙ sym (ap checked_of m), sym (refused-keeps-marked why m))
+    short-bytes why o =
+        let e : marked_refusal words block ≡ some why = rw (eq-eqb (length words) 254 n, o) refl in
+        (sym (ap checked_of e), sym (refused-keeps-marked why e))
 
-    -- of 254 bytes, whether there is a codeword by either rule is one check more
-    pub settled : d.checked ≡ Passed → (r : Bool) (after : List ℕ) → AnswerBoth (confessed words) block r after
-        → (a : Checked) → a ≡ checked_of (next (refusal_in d.checked) (require r (refusal_plain BeyondRepair) passed))
-        → (a ≡ checked_of (marked_refusal words block)) × (after ≡ marked_leaves words block)
-    settled p r after A a f =
-        let long = long-block block d e p in (
-          f ∙ ap₂ (λ (x : Checked) (b : Bool). checked_of (next (refusal_in x) (require b (refusal_plain BeyondRepair) passed))) p A.said ∙ sym (ap checked_of (marked-decides n long)),
-          A.left ∙ sym (marked-leaves n long),
-        )
+    -- of 254 bytes it is said whether there is a codeword by either rule
+    pub settled : length block ≡ 254 → (r : Bool) (after : List ℕ) → AnswerBoth (confessed words) block r after
+        → (checked_of (require r (refusal_plain BeyondRepair) passed) ≡ checked_of (marked_refusal words block)) × (after ≡ marked_leaves words block)
+    settled m r after A = (
+      ap (λ (b : Bool). checked_of (require b (refusal_plain BeyondRepair) passed)) A.said ∙ sym (ap checked_of (marked-decides n m)),
+      A.left ∙ sym (marked-leaves n m),
+    )
 
     -- a codeword passes
-    pub whole : d.checked ≡ Passed → Codeword block → (d.checked ≡ checked_of (marked_refusal words block)) × (block ≡ marked_leaves words block)
-    whole p C =
-        settled p true block (given-answer (confessed words) block block (both-self (confessed words) block C)) d.checked
-        (p ∙ sym (ap (λ (x : Checked). checked_of (next (refusal_in x) passed)) p))
+    pub whole : Codeword block → (Ok tt ≡ checked_of (marked_refusal words block)) × (block ≡ marked_leaves words block)
+    whole C = settled C.long true block (given-answer (confessed words) block block (both-self (confessed words) block C))

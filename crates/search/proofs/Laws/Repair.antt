@@ -2,12 +2,11 @@
 -- errors have them there is no such codeword.
 -- Assumes nothing.
 use mathlib.Core.Path.{◌≡◌, refl, sym, ap, ◌∙◌, subst}
-use mathlib.Core.Bool.{true, false, ◌&&◌, and-true, and_assoc}
+use mathlib.Core.Bool.{true, false}
 use mathlib.Core.List.{List, [], ◌∷◌}
 use Prim.Native.Nat.{ℕ, zero, suc, ◌-◌, ◌<◌, ◌≤◌}
 use native.Mathlib.Nat.{zero-lt-suc}
 use native.Mathlib.Omega.{arith}
-use lib.Dec.{eqb}
 use lib.ListN.{length, get_or, length-set}
 use Rattle.gf256.specs.Field.{◌⊕◌, ◌⊗◌, pow}
 use Rattle.gf256.specs.PowerSum.{Term, power_sum}
@@ -17,15 +16,11 @@ use Rattle.gf256.proofs.Laws.Ring.{ring}
 use Rattle.rs.specs.Polynomial.{value_at, ◌⊞◌, zeros}
 use Rattle.rs.specs.Codeword.{left_of, Codeword}
 use Rattle.basics.specs.Below.{Bytes}
-use Rattle.basics.specs.Each.{same}
-use Rattle.basics.proofs.Laws.Test.{never}
-use Rattle.basics.proofs.Laws.Each.{same-equal, same_self}
 use Rattle.rs.specs.Decode.{changes}
 use Rattle.rs.proofs.Laws.Polynomial.{⊞-bytes, length-⊞, value-⊞, value_set}
-use Rattle.basics.proofs.Laws.Parts.{all-entries}
 use Rattle.rs.proofs.Laws.Distance.{terms, length-terms, terms-sum, changes-weight, changes-zero, changes-self, changes-set}
 use Rattle.rs.proofs.Laws.Codeword.{codeword-vanishes, vanishing-codeword, left-value, zero-codeword, codeword-zero}
-use Rattle.rs.proofs.Laws.Decode.{Answer, some-answer, none-answer, codeword-answer, decode-complete, decode-none}
+use Rattle.rs.proofs.Laws.Decode.{Answer, some-answer, none-answer, decode-complete, decode-none}
 use Rattle.search.specs.Search.{Explains, terms_of, Placed, Falling, Solved, sums_of, patched, Damaged}
 use Rattle.search.specs.declared.solver.Errors.{Errors}
 use Rattle.search.specs.declared.solver.Outcome.{Outcome}
@@ -60,26 +55,14 @@ falling n [] h b = tt
 falling n (zero ∷ l) h b = falling n l (omega arith) b.1
 falling n (suc d ∷ l) h b = (length l, omega arith, refl, zero-lt-suc d, b.0, falling (length l) l (omega arith) b.1)
 
--- ---- six bytes that are 0
-
--- the test of the six, one by one
-pub six-zero : (l : List ℕ) → length l ≡ 6
-    → (eqb (get_or l 0 0) 0 && eqb (get_or l 1 0) 0 && eqb (get_or l 2 0) 0 && eqb (get_or l 3 0) 0 && eqb (get_or l 4 0) 0 && eqb (get_or l 5 0) 0) ≡ same l (zeros 6)
-unfolding same
-six-zero l n = simp and_assoc (simp and-true at (ap (λ (m : List ℕ). same m (zeros 6)) (all-entries 6 l n)))
-
 -- ---- nothing is left of a codeword, and of any other block something
 
 module _ (l rest : List ℕ) (n : length l ≡ 254) (b : Bytes l) (e : rest ≡ left_of l) where
-  pub nothing_left : same rest (zeros 6) ≡ true → Answer l true l
-  nothing_left z = codeword-answer l (zero-codeword l n b (sym e ∙ same-equal rest (zeros 6) z))
+  pub nothing_left : rest ≡ zeros 6 → Codeword l
+  nothing_left z = zero-codeword l n b (sym e ∙ z)
 
-  pub something-left : same rest (zeros 6) ≡ false → Damaged l rest
-  something-left z = record {
-    long = n;
-    divided = e;
-    broken = λ C. never (sym (ap (same rest) (sym (e ∙ codeword-zero l C)) ∙ same_self rest) ∙ z);
-  }
+  pub something-left : (rest ≡ zeros 6 → ⊥) → Damaged l rest
+  something-left z = record { long = n; divided = e; broken = λ C. z (e ∙ codeword-zero l C) }
 
 -- ---- a damaged block and its sums
 

@@ -4,42 +4,49 @@ use mir.Val.{Fits}
 use mir.Syntax.{w8}
 use lib.ListN.{get_or}
 use borrow.Author.Rules.{rules}
-use mathlib.Core.Path.{sym, ap, ◌∙◌}
+use mathlib.Core.Path.{sym, ◌∙◌}
+use Rattle.std.proofs.lemmas.Result.{err_from_is_err_and}
+use Rattle.std.specs.Cmp.Lexicographic.{same_text, other_text}
 use Rattle.basics.proofs.Laws.Below.{at-below}
-use Rattle.basics.proofs.Laws.Each.{same-equal}
-use Rattle.refusal.specs.declared.Checked.TheVariants.{Refused}
-use Rattle.rs.proofs.Laws.Codeword.{zero-codeword}
-use Rattle.search.proofs.Laws.Answer.{left_is, long-block}
-use Rattle.search.proofs.Laws.Marked.{short-words, refused-bytes, settled, whole}
-use Rattle.search.proofs.Laws.Repair.{something-left}
+use borrow.Author.Tests.{eqb-true}
+use Rattle.refusal.proofs.Laws.Chain.{told, require-passed}
+use Rattle.rs.proofs.Laws.Codeword.{divided-refused, divided-passed}
+use Rattle.search.proofs.Laws.Marked.{short-words, short-bytes, settled, whole}
+use Rattle.search.proofs.Laws.Repair.{nothing_left, something-left}
 use Rattle.search.proofs.repair_marked.Goals as goal
 
-pub returns-then-words-ne254 : goal.returns-then-words-ne254
-returns-then-words-ne254 c =
-    let A = short-words c.args.words.now c.args.block.now c.if-words-ne254.true in
-    (ap Refused c.plain.ensures ∙ A.0, A.1)
+pub returns-in_err-require : goal.returns-in_err-require
+returns-in_err-require c =
+    let p = err_from_is_err_and c.from_residual.result c.from_residual.ensures.1 in
+    rw (p.1, p.2) (short-words c.args.words.now c.args.block.now _ (told _ _ _ (rw c.plain.ensures at c.require.ensures) c.in_err-require.was))
 
-pub returns-in-Refused : goal.returns-in-Refused
-returns-in-Refused c = refused-bytes c.args.words.now c.args.block.now c.if-words-ne254.false c.remainder-divided.result c.remainder-divided.ensures _ c.in-Refused.is
-
-pub returns-then-is_zero : goal.returns-then-is_zero
-returns-then-is_zero c =
+pub returns-in_err-rest : goal.returns-in_err-rest
+returns-in_err-rest c =
     let l = c.args.block.now in
-    let d = c.remainder-divided.result in
-    let p = c.in_default.is in
-    whole c.args.words.now l c.if-words-ne254.false d c.remainder-divided.ensures p
-    (zero-codeword l (long-block l d c.remainder-divided.ensures p) (at-below 256 l (λ i. let b : Fits w8 (get_or l i 0) = search rules in b.fits))
-    (sym (left_is l d c.remainder-divided.ensures) ∙ same-equal _ _ (sym c.is_zero.ensures ∙ c.if-is_zero.true)))
+    let n = eqb-true _ _ (require-passed _ _ _ (told _ _ _ c.require.ensures c.in_ok-require.was)).0 in
+    let p = err_from_is_err_and c.from_residual-in_err-rest.result c.from_residual-in_err-rest.ensures.1 in
+    rw (p.1, p.2) (short-bytes c.args.words.now l n _ (divided-refused l _ (sym c.remainder.ensures ∙ c.in_err-rest.was)))
+
+pub returns-then-eq : goal.returns-then-eq
+returns-then-eq c =
+    let l = c.args.block.now in
+    let n = eqb-true _ _ (require-passed _ _ _ (told _ _ _ c.require.ensures c.in_ok-require.was)).0 in
+    let d = divided-passed l _ (sym c.remainder.ensures ∙ c.in_ok-rest.was) in
+    let bytes = at-below 256 l (λ i. let b : Fits w8 (get_or l i 0) = search rules in b.fits) in
+    whole c.args.words.now l n (nothing_left l _ d.0 bytes d.1 (same_text _ _ (sym c.if-eq.true ∙ c.eq.ensures)))
 
 pub mend_marked-requires : goal.mend_marked-requires
 mend_marked-requires c =
     let l = c.args.block.now in
-    let d = c.remainder-divided.result in (
-      something-left l d.left (long-block l d c.remainder-divided.ensures c.in_default.is) (at-below 256 l (λ i. let b : Fits w8 (get_or l i 0) = search rules in b.fits)) (left_is l d c.remainder-divided.ensures)
-          (sym c.is_zero.ensures ∙ c.if-is_zero.false),
-      c.if-words-ne254.false,
-    )
+    let n = eqb-true _ _ (require-passed _ _ _ (told _ _ _ c.require.ensures c.in_ok-require.was)).0 in
+    let d = divided-passed l _ (sym c.remainder.ensures ∙ c.in_ok-rest.was) in
+    let bytes = at-below 256 l (λ i. let b : Fits w8 (get_or l i 0) = search rules in b.fits) in
+    (something-left l _ d.0 bytes d.1 (other_text _ _ (sym c.if-eq.false ∙ c.eq.ensures)), n)
 
 pub returns : goal.returns
-returns c = settled c.args.words.now c.args.block.now c.if-words-ne254.false c.remainder-divided.result c.remainder-divided.ensures c.in_default.is
-    c.mend_marked.result _ (record { said = c.mend_marked.ensures.0; left = c.mend_marked.ensures.1 }) _ c.then.ensures
+returns c =
+    let l = c.args.block.now in
+    let n = eqb-true _ _ (require-passed _ _ _ (told _ _ _ c.require.ensures c.in_ok-require.was)).0 in
+    let d = divided-passed l _ (sym c.remainder.ensures ∙ c.in_ok-rest.was) in
+    rw (c.require-2.ensures, c.plain-2.ensures)
+    (settled c.args.words.now l n d.0 c.mend_marked.result _ (record { said = c.mend_marked.ensures.0; left = c.mend_marked.ensures.1 }))
