@@ -4,7 +4,7 @@
 
 mod item;
 
-ghost use Rattle.std.specs.Prelude.{◌≡◌, ◌||◌, eqb};
+ghost use Rattle.std.specs.Prelude.{◌≡◌, ◌||◌, ◌+◌, ◌-◌, ◌<◌, ◌≤◌, eqb, IfOk};
 ghost use Rattle.refusal.specs.Checked.{answer_of, checked_of};
 ghost use Rattle.items.specs.Item.{item_refusal, place_of, place_refusal};
 
@@ -17,10 +17,11 @@ pub struct ItemPlace {
     pub length: usize,
 }
 
-// The place of the item that has the number. Where there is no such item, that is refused.
+// The place of the item that has the number, which lies in the record. Where there is no such item, that is refused.
 #[tactic(auto, unfolding(crate::specs::Item::place_refusal, crate::specs::Item::place_refused_in, crate::specs::Item::place_of, crate::specs::Item::place_in, crate::specs::Item::row_of, crate::specs::Items::items))]
 pub fn item_place(number: u8) -> Result<ItemPlace, Refusal>
-    ensures { result ≡ answer_of (place_refusal number) (place_of number) }
+    ensures value { result ≡ answer_of (place_refusal number) (place_of number) }
+    ensures inside { IfOk result (λ p. (0 < p.first) × (p.first - 1 + p.length ≤ 248)) }
 {
     let (first, length) = match number {
         1 => (1, 8),

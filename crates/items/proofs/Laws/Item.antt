@@ -12,7 +12,12 @@ use lib.ListN.{length, get_or}
 use borrow.Author.Tests.{ne_eqb}
 use Rattle.refusal.specs.Chain.{require, next, passed}
 use Rattle.refusal.specs.Number.{refusal_at, refusal_plain}
+use Rattle.refusal.specs.Checked.{answer_of}
+use Rattle.refusal.specs.declared.Refusal.{Refusal}
 use Rattle.refusal.specs.declared.Reason.TheVariants.{Size}
+use Rattle.refusal.proofs.Laws.Chain.{passed-refused}
+use Rattle.std.specs.Prelude.{Ok, Err}
+use Rattle.items.specs.declared.ItemPlace.{ItemPlace}
 use Rattle.items.specs.Items.{Row, items, holders, reserved_byte}
 use Rattle.items.specs.Item.{row_of, refused_in, item_refusal, place_refused_in, place_refusal, place_in, place_of, rule_in, rule_of, reason_in, reason_of}
 use Rattle.rules.specs.Rules.{sound_byte}
@@ -91,6 +96,24 @@ unfolding place_of place_in
 place-lt n =
     ⊎_elim (λ h. ltb→lt (place_of n).first 256 (below_at (λ (k : ℕ). ltb (place_of k).first 256) 14 all-within n h)) (λ h. rw (row-none n (omega arith)) (omega arith))
     (lt-or-le n 14)
+
+-- the place that is given is that of the item, which there is
+answered : {A : Type 0} (o : Option Refusal) (x y : A) → Ok y ≡ answer_of o x → (o ≡ none) × (y ≡ x)
+answered none x y e = (refl, cc)
+answered (some why) x y e = absurd (passed-refused y why e)
+
+pub place-given : (n : ℕ) (p : ItemPlace) → Ok p ≡ answer_of (place_refusal n) (place_of n) → (place_refusal n ≡ none) × (p ≡ place_of n)
+place-given n p e = answered (place_refusal n) (place_of n) p e
+
+-- and where none is given there is no such item
+missing : (o : Option Row) (why : Refusal) → Err why ≡ answer_of (place_refused_in o) (place_in o) → o ≡ none
+unfolding place_refused_in
+missing none why e = refl
+missing (some i) why e = absurd (passed-refused (place_in (some i)) why (sym e))
+
+pub place-missing : (n : ℕ) (why : Refusal) → Err why ≡ answer_of (place_refusal n) (place_of n) → row_of n items ≡ none
+unfolding place_refusal place_of
+place-missing n why e = missing (row_of n items) why e
 
 -- a sound mode is one byte
 pub sound_at : (n : ℕ) (bytes : List ℕ) → (n ≡ 6) ⊎ (n ≡ 7) → length bytes ≡ (place_of n).length → sound_byte (get_or bytes 0 0) ≡ rule_of n bytes

@@ -14,18 +14,17 @@ use Rattle.refusal.proofs.Laws.Chain.{require-passed, Without, without-passed, w
 use Rattle.refusal.specs.Chain.{require, passed}
 use Rattle.refusal.specs.Number.{number_of, refusal_at}
 use Rattle.refusal.specs.declared.Reason.TheVariants.{Station, Time, Picture, Sound}
-use Rattle.refusal.specs.declared.Checked.{Checked}
-use Rattle.refusal.specs.declared.Checked.TheVariants.{Passed}
-use Rattle.refusal.specs.Checked.{checked_of}
+use Rattle.std.specs.Prelude.{Ok}
+use Rattle.refusal.specs.Checked.{Checked, checked_of}
 use Rattle.rules.specs.Rules.{station_rule, time_rule, picture_rule, sound_byte, sound_rule}
 use Rattle.record.specs.Record.{broken, record_refusal}
 use Rattle.items.specs.Items.{Row, items, part}
 use Rattle.rules.proofs.Laws.Rules.{sound-part}
 
 -- bytes that pass the check are 248
-pub passed-long : (bytes : List ℕ) (a : Checked) → a ≡ checked_of (record_refusal bytes) → a ≡ Passed → length bytes ≡ 248
+pub passed-long : (bytes : List ℕ) (a : Checked) → a ≡ checked_of (record_refusal bytes) → a ≡ Ok tt → length bytes ≡ 248
 unfolding record_refusal
-passed-long bytes a e d = eqb-true _ _ (require-passed _ _ _ (told (record_refusal bytes) a Passed e d)).0
+passed-long bytes a e d = eqb-true _ _ (require-passed _ _ _ (told (record_refusal bytes) a (Ok tt) e d)).0
 
 -- ---- the items that have a rule, in the order of their bytes
 
@@ -39,14 +38,14 @@ pub broken-items : (bytes : List ℕ) → broken items bytes ≡
 unfolding broken items part
 broken-items bytes = refl
 
-pub six-checks : (bytes : List ℕ) → length bytes ≡ 248 → broken items bytes ≡
+pub six_checks : (bytes : List ℕ) → length bytes ≡ 248 → broken items bytes ≡
     require (station_rule (take 8 bytes)) (refusal_at Station 1)
     (require (time_rule (take 9 (drop 8 bytes))) (refusal_at Time 9)
     (require (picture_rule (take 4 (drop 17 bytes))) (refusal_at Picture 18)
     (require (picture_rule (take 4 (drop 21 bytes))) (refusal_at Picture 22)
     (require (sound_byte (get_or bytes 26 0)) (refusal_at Sound 27)
     (require (sound_byte (get_or bytes 27 0)) (refusal_at Sound 28) passed)))))
-six-checks bytes h = rw (broken-items, sound-part bytes 26 (omega arith), sound-part bytes 27 (omega arith))
+six_checks bytes h = rw (broken-items, sound-part bytes 26 (omega arith), sound-part bytes 27 (omega arith))
 
 -- ---- a number that they do not refuse with
 

@@ -10,21 +10,16 @@ use native.Mathlib.Omega.{arith}
 use lib.ListN.{length, get_or, take, drop, replicate, length-append, length-drop, get_or-replicate, take-append-drop}
 use lib.Seq.{length-take-le, take_all, take_at, drop_at, drop-drop, get_or-drop}
 use lib.Dec.{lit<}
-use borrow.Author.Tests.{ne_eqb}
 use borrow.Rule.Slice.PartMut.{put_mid}
 use Rattle.rules.specs.Rules.{picture_clean}
 use Rattle.record.specs.Reserved.{reserved_area}
 use Rattle.record.specs.Record.{laid_out, record_of, broken, content_refusal, record_refusal}
 use Rattle.items.specs.Items.{Row, items, part}
 use Rattle.record.specs.Written.{written_refusal, written}
-use Rattle.refusal.specs.Checked.{checked_of}
-use Rattle.refusal.specs.Number.{refusal_plain}
-use Rattle.refusal.specs.declared.Checked.TheVariants.{Refused}
-use Rattle.refusal.specs.declared.Reason.TheVariants.{Size, Room}
 use Rattle.basics.specs.Below.{Bytes}
 use Rattle.basics.proofs.Laws.Below.{entry-below, append-below, take_below, drop-below, replicate-below}
 use Rattle.basics.proofs.Laws.Parts.{run_length, join, skip, part_same, entry-same, over}
-use Rattle.record.proofs.Laws.Checks.{six-checks}
+use Rattle.record.proofs.Laws.Checks.{six_checks}
 use Rattle.record.proofs.Laws.Reserved.{area-at, zero-content, content-zero, content-decides}
 use Rattle.rules.proofs.Laws.Clean.{clean-length, clean-bytes, clean-again, clean-rule}
 
@@ -186,9 +181,9 @@ module _ (bytes : List ℕ) (h : length bytes ≡ 248) where
       let time : take 9 (drop 8 (record_of bytes)) ≡ take 9 (drop 8 bytes) = part_same (record_of bytes) bytes 0 17 8 9 record-front (omega arith) in
       let current : get_or (record_of bytes) 26 0 ≡ get_or bytes 26 0 = record-at-middle 1 (omega arith) in
       let next : get_or (record_of bytes) 27 0 ≡ get_or bytes 27 0 = record-at-middle 2 (omega arith) in
-      six-checks (record_of bytes) record-length
+      six_checks (record_of bytes) record-length
       ∙ rw (station, time, record-current, record-next, clean-rule (take 4 (drop 17 bytes)), clean-rule (take 4 (drop 21 bytes)), current, next)
-      (sym (six-checks bytes h))
+      (sym (six_checks bytes h))
 
   pub record-content : content_refusal (record_of bytes) ≡ broken items bytes
   record-content = zero-content (record_of bytes) record-reserved ∙ record-rules
@@ -238,15 +233,6 @@ over-bytes bytes p q z h lp lq =
     three-over (take 17 bytes) p (drop 4 (drop 17 bytes)) q (take 18 (drop 25 bytes)) (drop 43 bytes) z (l17 bytes h) lp lq (l18 bytes h) rest ∙ rw last
 
 module _ (bytes out : List ℕ) where
-  pub unwritten-bytes : (length bytes ≡ 248 → ⊥) → (Refused (refusal_plain Size) ≡ checked_of (written_refusal bytes (length out))) × (out ≡ written bytes out)
-  unfolding written_refusal written
-  unwritten-bytes n = simp (ne_eqb _ _ n) (refl, refl)
-
-  pub unwritten-room : length bytes ≡ 248 → (length out ≡ 248 → ⊥)
-      → (Refused (refusal_plain Room) ≡ checked_of (written_refusal bytes (length out))) × (out ≡ written bytes out)
-  unfolding written_refusal written
-  unwritten-room h n = simp (h, ne_eqb _ _ n) (refl, refl)
-
   pub record-fits : length bytes ≡ 248 → length out ≡ 248 → written_refusal bytes (length out) ≡ none
   unfolding written_refusal
   record-fits h o = rw (h, o)

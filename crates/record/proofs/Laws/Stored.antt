@@ -3,21 +3,23 @@
 -- Assumes nothing.
 use mathlib.Core.Path.{◌≡◌, refl, sym, ap, ap₂, ◌∙◌, subst}
 use mathlib.Core.Bool.{Bool, true, false, cond, ◌&&◌, ◌||◌, false≢true}
+use mathlib.Core.Logic.{◌⊎◌, inl, inr}
 use mathlib.Core.List.{List, [], ◌∷◌, ◌++◌, append_assoc}
 use mathlib.Core.Option.{Option, none, some, some-ne-none, some-injective}
 use Prim.Native.Nat.{ℕ, ◌+◌, ◌-◌, ◌≤◌}
+use native.Mathlib.Nat.{zero-add}
 use native.Mathlib.Omega.{arith}
 use lib.Dec.{T, eqb, leb, leb→le, lit<}
 use lib.ListN.{length, take, drop, replicate, length-drop, take-append-drop}
 use lib.Seq.{length-take-le, drop-drop}
 use borrow.Author.Tests.{leb-true, eqb-true, eq-eqb, ne_eqb}
 use borrow.Rule.Slice.PartMut.{put_mid}
-use Rattle.refusal.specs.Chain.{require, left_by}
+use Rattle.refusal.specs.Chain.{require, next, passed, left_by}
 use Rattle.refusal.specs.Number.{refusal_plain}
 use Rattle.refusal.specs.declared.Reason.{Reason}
 use Rattle.refusal.specs.declared.Reason.TheVariants.{Picture, Size, Room}
 use Rattle.refusal.specs.declared.Refusal.{Refusal}
-use Rattle.refusal.proofs.Laws.Chain.{require-passed, told, passed-refused}
+use Rattle.refusal.proofs.Laws.Chain.{require-passed}
 use Rattle.basics.specs.Below.{Bytes}
 use Rattle.basics.proofs.Laws.Below.{entry-below, append-below, take_below, drop-below}
 use Rattle.basics.proofs.Laws.Test.{both_left, both_right}
@@ -26,11 +28,9 @@ use Rattle.record.specs.Reserved.{reserved_area}
 use Rattle.record.specs.Record.{record_of, broken, content_refusal, bytes_on, private_part, private_start}
 use Rattle.items.specs.Items.{Row, free, items, part}
 use Rattle.items.specs.declared.ItemPlace.{ItemPlace}
-use Rattle.items.specs.Item.{row_of, refused_in, item_refusal, place_in, place_of, put, clean_in, clean_of, part_in, item_part, put_in, put_item}
+use Rattle.items.specs.Item.{row_of, refused_in, item_refusal, place_refused_in, place_refusal, place_in, place_of, put, clean_in, clean_of, part_in, item_part, put_in, put_item}
 use Rattle.record.specs.Stored.{item_lent, item_start, put_refused_in, put_refusal, put_leaves, store_refusal, store_leaves}
-use Rattle.refusal.specs.Checked.{checked_of}
-use Rattle.refusal.specs.declared.Checked.{Checked}
-use Rattle.refusal.specs.declared.Checked.TheVariants.{Passed, Refused}
+use Rattle.refusal.specs.Checked.{Checked, checked_of}
 use Rattle.record.proofs.Laws.Reserved.{zero-content, content-rules}
 use Rattle.record.proofs.Laws.Put.{put-length, put-before, put-there, put-behind, put_back, before, behind}
 use Rattle.rules.proofs.Laws.Clean.{clean-length, clean-bytes, clean-again, clean-rule}
@@ -342,28 +342,18 @@ by_row n P p f = go (row_of n items) refl
     go (some i) e = f i e (sits n i e)
 
 -- the place is that of a row of the table
-pub record Placed (p : ItemPlace) (o : Option Row) : Type 0 where
-  pub row : Row
-  pub is : o ≡ some row
-  pub counted : 1 ≤ p.first
-  pub first : p.first ≡ row.first
-  pub length : p.length ≡ row.long
+record Placed (p : ItemPlace) (o : Option Row) : Type 0 where
+  row : Row
+  is : o ≡ some row
+  first : p.first ≡ row.first
+  length : p.length ≡ row.long
 
-module _ (n : ℕ) (p : ItemPlace) (e : p ≡ place_of n) where
-  pub place_inside : p.first - 1 + p.length ≤ 248
-  unfolding place_of place_in
-  place_inside = rw e (by_row n (λ o. (place_in o).first - 1 + (place_in o).length ≤ 248) (omega arith) (λ i f s. s.inside))
-
-  pub no_place : (why : Refusal) → p.checked ≡ Refused why → row_of n items ≡ none
-  unfolding place_of place_in
-  no_place why = rw e (by_row n (λ o. (place_in o).checked ≡ Refused why → o ≡ none) (λ z. refl) (λ i f s z. absurd (passed-refused why z)))
-
-  pub a-place : p.checked ≡ Passed → Placed p (row_of n items)
-  unfolding place_of place_in
-  a-place =
-      rw e
-      (by_row n (λ o. (place_in o).checked ≡ Passed → Placed (place_in o) o) (λ z. absurd (passed-refused _ (sym z)))
-      (λ i f s z. record { row = i; is = refl; counted = s.counted; first = refl; length = refl }))
+a-place : (n : ℕ) (p : ItemPlace) → p ≡ place_of n → place_refusal n ≡ none → Placed p (row_of n items)
+unfolding place_refusal place_refused_in place_of place_in
+a-place n p e =
+    rw e
+    (by_row n (λ o. place_refused_in o ≡ none → Placed (place_in o) o) (λ z. absurd (some-ne-none _ z))
+    (λ i f s z. record { row = i; is = refl; first = refl; length = refl }))
 
 -- the bytes of an item, and what they are stored as, are as many as it has
 pub part-long : (n : ℕ) (r : List ℕ) → length r ≡ 248 → length (item_part n r) ≡ (place_of n).length
@@ -426,7 +416,7 @@ lent_by n f l i bytes e ef el h =
     let k : f - 1 + l - (f - 1) ≡ l = omega arith in
     rw (k, ef, el, h, e)
 
-pub lent-part : (n : ℕ) (p : ItemPlace) (bytes : List ℕ) → p ≡ place_of n → length bytes ≡ 248 → p.checked ≡ Passed
+pub lent-part : (n : ℕ) (p : ItemPlace) (bytes : List ℕ) → p ≡ place_of n → length bytes ≡ 248 → place_refusal n ≡ none
     → take (p.first - 1 + p.length - (p.first - 1)) (drop (p.first - 1) bytes) ≡ item_lent n bytes
 lent-part n p bytes e h c = let a = a-place n p e c in lent_by n p.first p.length a.row bytes a.is a.first a.length h
 
@@ -435,6 +425,17 @@ pub lent-start : (n : ℕ) (p : ItemPlace) (bytes : List ℕ) (at : ℕ × ℕ) 
     → bytes_on (p.first - 1) at ≡ bytes_on (item_start n bytes) at
 unfolding item_start
 lent-start n p bytes at e h = rw (e, eq-eqb (length bytes) 248 h)
+
+neither : (t : Bool) (at : ℕ × ℕ) → (◌≡◌ {A = List ℕ} [] (cond t [] [])) × (at ≡ bytes_on (cond t 0 0) at)
+neither true at = (refl, ap (λ (k : ℕ). (at.0, k)) (sym (zero-add at.1)))
+neither false at = (refl, ap (λ (k : ℕ). (at.0, k)) (sym (zero-add at.1)))
+
+-- where there is no such item, or another number of bytes, the part is empty, at the beginning
+pub lent-none : (n : ℕ) (bytes : List ℕ) (at : ℕ × ℕ) → (row_of n items ≡ none) ⊎ (length bytes ≡ 248 → ⊥)
+    → ([] ≡ item_lent n bytes) × (at ≡ bytes_on (item_start n bytes) at)
+unfolding item_lent item_start item_part part_in place_of place_in
+lent-none n bytes at (inl e) = rw e (neither (eqb (length bytes) 248) at)
+lent-none n bytes at (inr h) = simp (ne_eqb (length bytes) 248 h) (neither false at)
 
 -- the private area is the part of item 13, and begins where that does
 pub private-item : (bytes : List ℕ) → item_lent 13 bytes ≡ private_part bytes
@@ -457,35 +458,28 @@ laid_by n f l i bytes old new e ef el s =
     let k : f - 1 + l - (f - 1) ≡ length bytes = omega arith in
     rw (k, ef, s, e, append_assoc, drop-drop (length bytes) (start i) old)
 
--- bytes that are refused
-module _ (n : ℕ) (p : ItemPlace) (bytes old : List ℕ) (e : p ≡ place_of n) where
-  none-put : (o : Option Row) (why : Refusal) → (place_in o).checked ≡ Refused why → ((place_in o).checked ≡ checked_of (put_refused_in bytes (length old) o)) × (old ≡ left_by (put_refused_in bytes (length old) o) (put_in bytes old o) old)
-  unfolding place_in put_refused_in
-  none-put none why z = (refl, refl)
-  none-put (some i) why z = absurd (passed-refused why z)
+-- what putting bytes into a place asks
+put-checks-in : (bytes : List ℕ) (room : ℕ) (o : Option Row)
+    → put_refused_in bytes room o ≡ next (place_refused_in o) (require (eqb (length bytes) (place_in o).length) (refusal_plain Size) (require (eqb room 248) (refusal_plain Room) passed))
+unfolding put_refused_in place_refused_in place_in
+put-checks-in bytes room none = refl
+put-checks-in bytes room (some i) = refl
 
-  pub put-none : (why : Refusal) → p.checked ≡ Refused why → (p.checked ≡ checked_of (put_refusal n bytes (length old))) × (old ≡ put_leaves n bytes old)
-  unfolding place_of put_refusal put_leaves put_item
-  put-none why = rw e (none-put (row_of n items) why)
+pub put-checks : (n : ℕ) (bytes : List ℕ) (room : ℕ)
+    → put_refusal n bytes room ≡ next (place_refusal n) (require (eqb (length bytes) (place_of n).length) (refusal_plain Size) (require (eqb room 248) (refusal_plain Room) passed))
+unfolding put_refusal place_refusal place_of
+put-checks n bytes room = put-checks-in bytes room (row_of n items)
 
-  module _ (c : p.checked ≡ Passed) where
-    pub put-size : (length bytes ≡ p.length → ⊥) → (Refused (refusal_plain Size) ≡ checked_of (put_refusal n bytes (length old))) × (old ≡ put_leaves n bytes old)
-    unfolding put_refusal put_refused_in put_leaves
-    put-size w = let a = a-place n p e c in simp (a.is, ne_eqb (length bytes) a.row.long (λ l. w (l ∙ sym a.length))) (refl, refl)
+pub ruleset putting = put-checks
 
-    module _ (l : length bytes ≡ p.length) where
-      pub put-room : (length old ≡ 248 → ⊥) → (Refused (refusal_plain Room) ≡ checked_of (put_refusal n bytes (length old))) × (old ≡ put_leaves n bytes old)
-      unfolding put_refusal put_refused_in put_leaves
-      put-room w = let a = a-place n p e c in simp (a.is, eq-eqb (length bytes) a.row.long (l ∙ a.length), ne_eqb (length old) 248 w) (refl, refl)
-
-      -- and those that are not
-      pub put_all : (new : List ℕ) → length old ≡ 248 → new ≡ bytes
-          → (Passed ≡ checked_of (put_refusal n bytes (length old))) × (put_mid (p.first - 1) (p.first - 1 + p.length - (p.first - 1)) old new ≡ put_leaves n bytes old)
-      unfolding put_refusal put_refused_in put_leaves
-      put_all new h s =
-          let a = a-place n p e c in
-          let t : put_refusal n bytes (length old) ≡ none = simp (a.is, eq-eqb (length bytes) a.row.long (l ∙ a.length), h) in
-          (sym (ap checked_of t), laid_by n p.first p.length a.row bytes old new a.is a.first (sym l) s ∙ rw t)
+-- and what it leaves where they pass
+pub put-laid : (n : ℕ) (p : ItemPlace) (bytes old new : List ℕ) → p ≡ place_of n → place_refusal n ≡ none → length bytes ≡ p.length → length old ≡ 248 → new ≡ bytes
+    → put_mid (p.first - 1) (p.first - 1 + p.length - (p.first - 1)) old new ≡ put_leaves n bytes old
+unfolding put_leaves
+put-laid n p bytes old new e k l h s =
+    let a = a-place n p e k in
+    let t : put_refusal n bytes (length old) ≡ none = put-checks n bytes (length old) ∙ rw (k, eq-eqb (length bytes) (place_of n).length (l ∙ ap (λ (q : ItemPlace). q.length) e), h) in
+    laid_by n p.first p.length a.row bytes old new a.is a.first (sym l) s ∙ rw t
 
 -- what is stored of a picture mode, and of another item
 pub mode-stored : (n : ℕ) (bytes : List ℕ) → item_refusal n bytes ≡ none → is_mode n ≡ true → (length bytes ≡ 4) × (picture_clean bytes ≡ clean_of n bytes)
@@ -533,22 +527,12 @@ store_bytes n bytes r f g =
     by_row n (λ o. Bytes (put_in (clean_in bytes o) r o)) g
     (λ i e s. put-bytes r (i.clean bytes) (start i) g (mode-bytes i (is_mode i.number) s refl bytes f))
 
--- checked bytes, by what the check of the item said
-module _ (n : ℕ) (bytes old : List ℕ) (said : Checked) (e : said ≡ checked_of (item_refusal n bytes)) where
-  pub store-refused : (why : Refusal) → said ≡ Refused why
-      → (Refused why ≡ checked_of (store_refusal n bytes (length old))) × (old ≡ store_leaves n bytes old)
-  unfolding store_refusal store_leaves
-  store-refused why s = rw (told (item_refusal n bytes) said (Refused why) e s) (refl, refl)
-
-  module _ (s : said ≡ Passed) where
-    pub accepted : item_refusal n bytes ≡ none
-    accepted = told (item_refusal n bytes) said Passed e s
-
-    -- what is put answers for the room
-    pub store-put : (new left : List ℕ) (put-said : Checked) → new ≡ clean_of n bytes → put-said ≡ checked_of (put_refusal n new (length old)) → left ≡ put_leaves n new old
-        → (put-said ≡ checked_of (store_refusal n bytes (length old))) × (left ≡ store_leaves n bytes old)
-    unfolding store_refusal store_leaves put_leaves
-    store-put new left put-said c p l =
-        let q : put_refusal n new (length old) ≡ store_refusal n bytes (length old) =
-        ap (λ (b : List ℕ). put_refusal n b (length old)) c ∙ clean-put-refusal n bytes (length old) accepted ∙ sym (rw accepted) in
-        (p ∙ ap checked_of q, l ∙ ap₂ (λ (o : Option Refusal) (b : List ℕ). left_by o (put_item n b old) old) q c)
+-- checked bytes: what is put answers for the room
+pub store-put : (n : ℕ) (bytes old new left : List ℕ) (put-said : Checked) → item_refusal n bytes ≡ none → new ≡ clean_of n bytes
+    → put-said ≡ checked_of (put_refusal n new (length old)) → left ≡ put_leaves n new old
+    → (put-said ≡ checked_of (store_refusal n bytes (length old))) × (left ≡ store_leaves n bytes old)
+unfolding store_refusal store_leaves put_leaves
+store-put n bytes old new left put-said accepted c p l =
+    let q : put_refusal n new (length old) ≡ store_refusal n bytes (length old) =
+    ap (λ (b : List ℕ). put_refusal n b (length old)) c ∙ clean-put-refusal n bytes (length old) accepted ∙ sym (rw accepted) in
+    (p ∙ ap checked_of q, l ∙ ap₂ (λ (o : Option Refusal) (b : List ℕ). left_by o (put_item n b old) old) q c)

@@ -1,15 +1,10 @@
 -- `record::first_used` meets its contract. The loop's invariant: the bytes passed are zero, so that what is refused is what those behind them are
--- refused for. The measure is what is left of the length.
+-- refused for.
 -- Assumes nothing.
-use Prim.Native.Nat.{◌-◌}
-use lib.ListN.{length}
-use Rattle.refusal.specs.declared.Checked.TheVariants.{Passed}
+use Rattle.std.specs.Prelude.{Ok}
 use Rattle.refusal.proofs.Laws.Run.{Walked}
 use Rattle.record.specs.Reserved.{used_at}
 use Rattle.record.proofs.first_used.Given as goal
 
 abbrev pub invariant-loop-i : goal.invariant-loop-i
-invariant-loop-i l = Walked used_at l.first l.bytes l.i Passed
-
-abbrev pub decreases-loop-i : goal.decreases-loop-i
-decreases-loop-i l = length l.bytes - l.i
+invariant-loop-i l = Walked used_at l.first l.bytes l.i (Ok tt)

@@ -1,23 +1,25 @@
 -- `record::item_part` meets its contract: the part from the item's place on is its bytes.
 -- Assumes nothing.
-use Rattle.record.proofs.Laws.Stored.{place_inside, a-place, lent-part, lent-start}
-use borrow.Author.Rules.{rules}
+use mathlib.Core.Logic.{inl, inr}
+use Rattle.items.proofs.Laws.Item.{place-given, place-missing}
+use Rattle.record.proofs.Laws.Stored.{lent-part, lent-start, lent-none}
+use Rattle.record.proofs.item_part.Goals.{in_default-via-in-Ok+else-bytes-eq248, in_default-via-in_default}
 use Rattle.record.proofs.item_part.Goals as goal
 
-pub overflow_sub-result : goal.overflow_sub-result
-overflow_sub-result c = let h = (a-place _ _ c.item_place-place.ensures c.in_default.is).counted in search rules
+pub returns-in-Ok : goal.returns-in-Ok
+returns-in-Ok c =
+    let a = c.args in
+    let p = c.in-Ok.place in
+    let given = place-given a.number p c.in-Ok.ensures.value in (
+      lent-part a.number p a.bytes.now given.1 c.if-bytes-eq248.true given.0,
+      lent-start a.number p a.bytes.now a.bytes.ref_ptr given.1 c.if-bytes-eq248.true,
+    )
 
-pub overflow_sub-result-2 : goal.overflow_sub-result-2
-overflow_sub-result-2 c = let h = (a-place _ _ c.item_place-place.ensures c.in_default.is).counted in search rules
-
-pub overflow_add-result : goal.overflow_add-result
-overflow_add-result c = let h = place_inside _ _ c.item_place-place.ensures in search rules
-
-pub returns : goal.returns
-returns c = let a = c.args in (
-  lent-part _ _ a.bytes.now c.item_place-place.ensures c.if-bytes-ne248.false c.in_default.is,
-  lent-start a.number _ a.bytes.now a.bytes.ref_ptr c.item_place-place.ensures c.if-bytes-ne248.false,
-)
-
-pub slice_bounds-result-end-2 : goal.slice_bounds-result-end-2
-slice_bounds-result-end-2 c = let h = place_inside _ _ c.item_place-place.ensures in search rules
+pub returns-in_default : goal.returns-in_default
+returns-in_default c =
+    let a = c.args in
+    lent-none a.number a.bytes.now a.bytes.ref_ptr
+    (elim c.in_default.branch [
+      | in_default-via-in-Ok+else-bytes-eq248 w ↦ inr w.if-bytes-eq248.false
+      | in_default-via-in_default w ↦ inl (place-missing a.number _ w.in_default.ensures.value)
+    ])

@@ -1,30 +1,25 @@
 -- `record::write_record` meets its contract: the record is the bytes with the two picture modes and the zeros written over them.
 -- Assumes nothing.
-use mathlib.Core.Path.{sym, ap, ◌∙◌}
+use mathlib.Core.Path.{◌≡◌, sym, ap, ◌∙◌}
+use Prim.Native.Nat.{ℕ}
+use native.Mathlib.Omega.{arith}
+use lib.ListN.{length, replicate}
 use Rattle.refusal.specs.Checked.{checked_of}
 use Rattle.rules.specs.Rules.{picture_clean}
-use Rattle.record.proofs.Laws.Record.{unwritten-bytes, unwritten-room, record-fits, record-written}
+use Rattle.record.proofs.Laws.Record.{record-fits, record-written}
 use Rattle.record.proofs.write_record.Goals as goal
-
-pub returns-then-bytes-ne248 : goal.returns-then-bytes-ne248
-returns-then-bytes-ne248 c =
-    let a = c.args in
-    rw c.plain.ensures (unwritten-bytes a.bytes.now a.out.now c.if-bytes-ne248.true)
-
-pub returns-then-out-ne248 : goal.returns-then-out-ne248
-returns-then-out-ne248 c =
-    let a = c.args in
-    rw c.plain-then-out-ne248.ensures (unwritten-room a.bytes.now a.out.now c.if-bytes-ne248.false c.if-out-ne248.true)
 
 pub returns : goal.returns
 returns c =
     let a = c.args in
-    let h = c.if-bytes-ne248.false in
-    let o = c.if-out-ne248.false in (
+    let h : length a.bytes.now ≡ 248 = grind arith in
+    let o : length a.out.now ≡ 248 = grind arith in
+    let long : length c.fill.new.self ≡ 64 = grind arith in
+    let zeros : c.fill.new.self ≡ replicate 64 0 = c.fill.ensures.after (λ y e. e) ∙ ap (λ (n : ℕ). replicate n 0) (sym c.fill.ensures.len ∙ long) in (
       sym (ap checked_of (record-fits a.bytes.now a.out.now h o)),
       record-written a.bytes.now a.out.now h o _ _ _ _
-          c.copy.ensures
-          (c.copy-2.ensures ∙ c.picture_clean-current.ensures ∙ ap picture_clean c.four.ensures)
-          (c.copy-3.ensures ∙ c.picture_clean-next.ensures ∙ ap picture_clean c.four-2.ensures)
-          c.copy-4.ensures,
+          c.copy_from_slice.ensures.after
+          (c.copy_from_slice-2.ensures.after ∙ c.picture_clean-current.ensures ∙ ap picture_clean c.array_of.ensures)
+          (c.copy_from_slice-3.ensures.after ∙ c.picture_clean-next.ensures ∙ ap picture_clean c.array_of-2.ensures)
+          zeros,
     )
