@@ -8,22 +8,12 @@ use crate::Kind;
 pub fn repeats(kind: Kind) -> u32
     ensures { result ≡ repeats_in kind }
 {
-    match kind {
-        Kind::First => 0,
-        Kind::Next => 0,
-        Kind::Repeat => 1,
-        Kind::Conflict => 0,
-    }
+    u32::from(kind == Kind::Repeat)
 }
 
 // 1 for a conflict, else 0.
 pub fn conflicts(kind: Kind) -> u32
     ensures { result ≡ conflicts_in kind }
 {
-    match kind {
-        Kind::First => 0,
-        Kind::Next => 0,
-        Kind::Repeat => 0,
-        Kind::Conflict => 1,
-    }
+    u32::from(kind == Kind::Conflict)
 }

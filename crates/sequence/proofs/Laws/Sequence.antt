@@ -1,10 +1,17 @@
--- The step from one index to another, what it says of the packet, and a worked value of onsets.
+-- The step from one index to another, what it says of the packet, the onsets of a byte as a mask leaves them, how the library tests equal lists, and
+-- a worked value of onsets.
 -- Assumes nothing.
-use mathlib.Core.Path.{◌≡◌, refl}
-use mathlib.Core.Bool.{Bool, true}
-use Prim.Native.Nat.{ℕ, suc, ◌+◌, ◌%◌, ◌≤◌, ◌<◌}
+use mathlib.Core.Path.{◌≡◌, refl, ap}
+use mathlib.Core.Bool.{Bool, true, ◌&&◌}
+use mathlib.Core.List.{List, [], ◌∷◌}
+use Prim.Native.Nat.{ℕ, suc, ◌+◌, ◌-◌, ◌%◌, ◌≤◌, ◌<◌}
 use native.Mathlib.Omega.{arith}
-use lib.Dec.{eqb-suc-zero}
+use lib.Bits.{bit_and}
+use lib.Dec.{T, eqb, eqb-suc-zero}
+use Rattle.std.proofs.Math.Facts.{eqb_yes}
+use Rattle.std.specs.Cmp.Lexicographic.{pointwise}
+use Rattle.basics.specs.Each.{same}
+use Rattle.basics.proofs.Laws.Test.{below, below_at}
 use Rattle.sequence.specs.declared.Kind.{Kind}
 use Rattle.sequence.specs.declared.Kind.TheVariants.{First, Next, Repeat, Conflict}
 use Rattle.sequence.specs.Sequence.{step_of, kind_of, missed_of}
@@ -44,6 +51,27 @@ missed-le Conflict l n = omega arith
 pub further : (m : ℕ) (equal : Bool) → kind_of true (suc m) equal ≡ Next
 unfolding kind_of
 further m equal = rw eqb-suc-zero
+
+-- ---- the onsets of a byte, as a mask leaves them
+
+all-masked : T (below (λ (old : ℕ). below (λ (new : ℕ). eqb (bit_and new (255 - old)) (onset_byte old new)) 256) 256)
+unfolding onset_byte onset_bit
+all-masked = tt
+
+pub onsets-masked : (old new : ℕ) → old < 256 → new < 256 → bit_and new (255 - old) ≡ onset_byte old new
+onsets-masked old new h k =
+    eqb_yes
+    (below_at (λ (n : ℕ). eqb (bit_and n (255 - old)) (onset_byte old n)) 256
+    (below_at (λ (o : ℕ). below (λ (n : ℕ). eqb (bit_and n (255 - o)) (onset_byte o n)) 256) 256 all-masked old h) new k)
+
+-- ---- equal lists, as the library tests them
+
+pub pointwise-same : (a b : List ℕ) → pointwise eqb a b ≡ same a b
+unfolding same
+pointwise-same [] [] = refl
+pointwise-same [] (y ∷ b) = refl
+pointwise-same (x ∷ a) [] = refl
+pointwise-same (x ∷ a) (y ∷ b) = ap (◌&&◌ (eqb x y)) (pointwise-same a b)
 
 -- ---- a worked value
 
