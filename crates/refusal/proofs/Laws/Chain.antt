@@ -115,13 +115,20 @@ refused-is o x w e = sym (refusal-in-answer o x) ∙ ap refusal_in (sym e)
 pub done-is : {A : Type 0} (o : Option Refusal) (x y : A) → Ok y ≡ answer_of o x → o ≡ none
 done-is o x y e = sym (refusal-in-answer o x) ∙ ap refusal_in (sym e)
 
--- and tells what is left
-module _ {A X : Type 0} (o : Option Refusal) (x : A) (new old : X) where
-  pub kept-by : (w : Refusal) → Err w ≡ answer_of o x → (Err w ≡ answer_of o x) × (old ≡ left_by o new old)
-  kept-by w e = rw (refused-is o x w e) (refl, refl)
+-- and what the checks said tells the answer
+pub err-by : {A : Type 0} (o : Option Refusal) (x : A) (w : Refusal) → Err w ≡ checked_of o → Err w ≡ answer_of o x
+err-by o x w e = rw (refused-is o tt w e) refl
 
-  pub left-by : (y : A) → Ok y ≡ answer_of o x → (Ok x ≡ answer_of o x) × (new ≡ left_by o new old)
-  left-by y e = rw (done-is o x y e) (refl, refl)
+pub ok-by : {A : Type 0} (o : Option Refusal) (x : A) → Ok tt ≡ checked_of o → Ok x ≡ answer_of o x
+ok-by o x e = rw (done-is o tt tt e) refl
+
+-- and what is left
+module _ {A X : Type 0} (o : Option Refusal) (x : A) (new old : X) where
+  pub kept-by : (w : Refusal) → Err w ≡ checked_of o → (Err w ≡ answer_of o x) × (old ≡ left_by o new old)
+  kept-by w e = (err-by o x w e, rw (refused-is o tt w e) refl)
+
+  pub left-by : Ok tt ≡ checked_of o → (Ok x ≡ answer_of o x) × (new ≡ left_by o new old)
+  left-by e = (ok-by o x e, rw (done-is o tt tt e) refl)
 
 -- ---- a test that a call answered
 
@@ -209,3 +216,13 @@ stopped {why} {w} rest c e p g h =
 -- the checks so far passed, and the last call decides
 pub decided : {a : Checked} {chain : Option Refusal → Option Refusal} (o : Option Refusal) → Chained (Ok tt) chain → a ≡ checked_of o → a ≡ checked_of (chain o)
 decided o c e = e ∙ ap checked_of (c.behind o)
+
+-- and so with the checks of a further call, that passed or that did not
+pub went-past : {a : Checked} {chain : Option Refusal → Option Refusal} (o : Option Refusal) → Chained (Ok tt) chain → a ≡ checked_of o → a ≡ Ok tt
+    → Chained (Ok tt) (λ rest. chain (next o rest))
+went-past {chain} o c e h = let none-of = done-is o tt tt (sym h ∙ e) in record { behind = λ rest. c.behind rest ∙ ap chain (sym (ap (λ (p : Option Refusal). next p rest) none-of)) }
+
+pub stopped-at : {a : Checked} {chain : Option Refusal → Option Refusal} {w : Refusal} (o rest : Option Refusal) → Chained (Ok tt) chain → a ≡ checked_of o → a ≡ Err w
+    → Err w ≡ checked_of (chain (next o rest))
+stopped-at {chain} {w} o rest c e h =
+    let that = refused-is o tt w (sym h ∙ e) in ap checked_of (c.behind (some w) ∙ ap chain (sym (ap (λ (p : Option Refusal). next p rest) that)))

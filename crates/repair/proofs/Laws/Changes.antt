@@ -6,15 +6,13 @@ use Prim.Native.Nat.{ℕ, zero, suc, ◌+◌, ◌≤◌, ◌<◌}
 use native.Mathlib.Nat.{le_of_suc-le-suc, not-suc-le-zero}
 use native.Mathlib.Numerals.{add-one}
 use native.Mathlib.Omega.{arith}
-use borrow.Author.Tests.{eq-eqb, ne_eqb}
+use borrow.Author.Tests.{eq-eqb}
 use lib.ListN.{length, take, get_or}
 use lib.Seq.{take_all}
 use Rattle.rs.specs.Decode.{changes}
 use Rattle.rs.proofs.Laws.Distance.{differ, place, differ_same}
 use Rattle.anc.specs.Words.{sound_words}
-use Rattle.refusal.specs.Number.{refusal_plain}
-use Rattle.refusal.specs.declared.Reason.TheVariants.{Size}
-use Rattle.repair.specs.declared.Repaired.TheVariants.{Fixed, Refused}
+use Rattle.std.specs.Prelude.{Ok}
 use Rattle.repair.specs.Protected.{count_refusal}
 use Rattle.repair.specs.Repair.{counted_of}
 
@@ -48,14 +46,6 @@ changes-all a b i h k = ap₂ changes (take_all i a h) (take_all i b k)
 -- ---- words against bytes, 254 of each
 
 module _ (words bytes : List ℕ) where
-  pub few_words : (length words ≡ 254 → ⊥) → Refused (refusal_plain Size) ≡ counted_of words bytes
-  unfolding counted_of count_refusal
-  few_words n = rw (ne_eqb (length words) 254 n)
-
-  pub few_bytes : length words ≡ 254 → (length bytes ≡ 254 → ⊥) → Refused (refusal_plain Size) ≡ counted_of words bytes
-  unfolding counted_of count_refusal
-  few_bytes h n = rw (eq-eqb (length words) 254 h, ne_eqb (length bytes) 254 n)
-
-  pub counted_words : length words ≡ 254 → length bytes ≡ 254 → Fixed (changes words (sound_words bytes)) ≡ counted_of words bytes
+  pub counted_words : length words ≡ 254 → length bytes ≡ 254 → Ok (changes words (sound_words bytes)) ≡ counted_of words bytes
   unfolding counted_of count_refusal
   counted_words h k = rw (eq-eqb (length words) 254 h, eq-eqb (length bytes) 254 k)

@@ -2,14 +2,14 @@
 -- soundness of what repair writes.
 -- Assumes nothing.
 use mathlib.Core.Path.{◌≡◌, refl, sym, ap, ◌∙◌}
-use mathlib.Core.Bool.{true, false}
+use mathlib.Core.Bool.{true}
 use mathlib.Core.List.{List}
 use mathlib.Core.Logic.{◌⊎◌, ⊎_elim}
 use mathlib.Core.Option
 use mathlib.Core.Option.{Option, none, some}
 use Prim.Native.Nat.{ℕ, ◌≤◌, ◌<◌}
 use native.Mathlib.Omega.{arith}
-use borrow.Author.Tests.{eq-eqb, ne_eqb}
+use borrow.Author.Tests.{eq-eqb}
 use lib.Dec.{eqb}
 use lib.ListN.{length, get_or}
 use Rattle.anc.specs.Word.{is_sound}
@@ -24,19 +24,16 @@ use Rattle.rs.proofs.Laws.Marked.{both-sound, both-complete, both-unmarked}
 use Rattle.search.specs.Marked.{confessed, marked_refusal}
 use Rattle.search.proofs.Laws.Marked.{marked-decides}
 use Rattle.refusal.specs.Chain.{require, passed, left_by}
-use Rattle.refusal.specs.Checked.{checked_of, refusal_in as refusal_in_check}
-use Rattle.refusal.specs.declared.Checked.{Checked}
-use Rattle.refusal.specs.declared.Checked.TheVariants.{Passed, Refused as NotPassed}
-use Rattle.refusal.proofs.Laws.Chain.{require-passed, require-refused, told}
+use Rattle.std.specs.Prelude.{Ok}
+use Rattle.refusal.specs.Checked.{Checked, answer_of, checked_of, refusal_in}
+use Rattle.refusal.proofs.Laws.Chain.{require-passed, refusal-in-answer}
 use Rattle.refusal.specs.Number.{refusal_plain}
-use Rattle.refusal.specs.declared.Reason.TheVariants.{Size, Wide, BeyondRepair, Room}
+use Rattle.refusal.specs.declared.Reason.TheVariants.{BeyondRepair}
 use Rattle.refusal.specs.declared.Refusal.{Refusal}
-use Rattle.repair.specs.declared.Repaired.{Repaired}
-use Rattle.repair.specs.declared.Repaired.TheVariants.{Fixed, Refused}
 use Rattle.repair.specs.Protected.{repairable, repaired, rewritten, fixed_of, count_refusal, repair_refusal}
 use Rattle.anc.specs.Words.{low_bytes, sound_words, narrow}
 use Rattle.repair.proofs.Laws.Damage.{none-confess}
-use Rattle.repair.specs.Repair.{refusal_in, fixed_in, repaired_by, repaired_of, counted_of, repair_leaves}
+use Rattle.repair.specs.Repair.{fixed_in, repaired_of, counted_of, repair_leaves}
 use Rattle.anc.proofs.Laws.Words.{low_bytes-length, sound_words-length, low-bytes, sound-at}
 
 -- ---- repaired bytes
@@ -116,84 +113,46 @@ repair-recovers c words W =
 
 -- ---- the answer of repair
 
--- what is said, and what is left in the lent buffer
-pub record Answer (words old : List ℕ) (said : Repaired) (left : List ℕ) : Type 0 where
-  pub right : said ≡ repaired_of words (length old)
-  pub kept : left ≡ repair_leaves words old
+-- what the search for a codeword says is whether the words can be repaired
+pub near-said : (words : List ℕ) {near : Checked} → length words ≡ 254 → near ≡ checked_of (marked_refusal words (low_bytes words))
+    → near ≡ checked_of (require (repairable words) (refusal_plain BeyondRepair) passed)
+unfolding repairable
+near-said words n e = e ∙ ap checked_of (marked-decides words (low_bytes words) n (low_bytes-length words ∙ n))
 
-answer : (words old : List ℕ) (o : Option Refusal) → repair_refusal words (length old) ≡ o
-    → Answer words old (repaired_by o (fixed_of words)) (left_by o (rewritten words) old)
-unfolding repaired_of repair_leaves
-answer words old o e = record {
-  right = sym (ap (λ (p : Option Refusal). repaired_by p (fixed_of words)) e);
-  kept = sym (ap (λ (p : Option Refusal). left_by p (rewritten words) old) e);
-}
-
-module _ (words old : List ℕ) where
-  pub wrong_size : (length words ≡ 254 → ⊥) → Answer words old (Refused (refusal_plain Size)) old
-  unfolding repair_refusal
-  wrong_size n = answer words old (some (refusal_plain Size)) (simp (ne_eqb (length words) 254 n))
-
-  pub too_wide : length words ≡ 254 → narrow words ≡ false → Answer words old (Refused (refusal_plain Wide)) old
-  unfolding repair_refusal
-  too_wide n w = answer words old (some (refusal_plain Wide)) (simp (eq-eqb (length words) 254 n, w))
-
-  -- by what the search for a codeword answered
-  module _ (near : Checked) (n : length words ≡ 254) (e : near ≡ checked_of (marked_refusal words (low_bytes words))) where
-    near-said : (a : Checked) → near ≡ a → require (repairable words) (refusal_plain BeyondRepair) passed ≡ refusal_in_check a
-    unfolding repairable
-    near-said a s = sym (marked-decides words (low_bytes words) n (low_bytes-length words ∙ n)) ∙ told (marked_refusal words (low_bytes words)) near a e s
-
-    pub beyond-repair : (why : Refusal) → narrow words ≡ true → near ≡ NotPassed why → Answer words old (Refused why) old
-    unfolding repair_refusal
-    beyond-repair why w s =
-        answer words old (some why) (simp (eq-eqb (length words) 254 n, w) (require-refused (repairable words) _ why _ (near-said (NotPassed why) s)))
-
-    pub within-repair : near ≡ Passed → repairable words ≡ true
-    within-repair s = (require-passed (repairable words) _ passed (near-said Passed s)).0
-
-  pub wrong-room : length words ≡ 254 → narrow words ≡ true → repairable words ≡ true → (length old ≡ 254 → ⊥)
-      → Answer words old (Refused (refusal_plain Room)) old
-  unfolding repair_refusal
-  wrong-room n w r m = answer words old (some (refusal_plain Room)) (simp (eq-eqb (length words) 254 n, w, r, ne_eqb (length old) 254 m))
-
-  pub all_right : length words ≡ 254 → narrow words ≡ true → repairable words ≡ true → length old ≡ 254
-      → Answer words old (Fixed (fixed_of words)) (rewritten words)
-  unfolding repair_refusal
-  all_right n w r m = answer words old none (simp (eq-eqb (length words) 254 n, w, r, eq-eqb (length old) 254 m))
+-- words of ten bits that can be repaired, into room for them, are refused for nothing
+pub all_right : (words : List ℕ) (room : ℕ) → length words ≡ 254 → narrow words ≡ true → repairable words ≡ true → room ≡ 254 → repair_refusal words room ≡ none
+unfolding repair_refusal
+all_right words room n w r m = simp (eq-eqb (length words) 254 n, w, r, eq-eqb room 254 m)
 
 -- the refusal that an answer tells is the one that the rules give
-said-by : (o : Option Refusal) (n : ℕ) → refusal_in (repaired_by o n) ≡ o
-said-by none n = refl
-said-by (some why) n = refl
-
 pub refusal-said : (words : List ℕ) (room : ℕ) → refusal_in (repaired_of words room) ≡ repair_refusal words room
 unfolding repaired_of
-refusal-said words room = said-by (repair_refusal words room) (fixed_of words)
+refusal-said words room = refusal-in-answer (repair_refusal words room) (fixed_of words)
 
 pub count-said : (words bytes : List ℕ) → refusal_in (counted_of words bytes) ≡ count_refusal words bytes
 unfolding counted_of
-count-said words bytes = said-by (count_refusal words bytes) (changes words (sound_words bytes))
+count-said words bytes = refusal-in-answer (count_refusal words bytes) (changes words (sound_words bytes))
 
 -- where they give none it tells how many words were fixed
 pub fixed-said : (words : List ℕ) (room : ℕ) → repair_refusal words room ≡ none → fixed_in (repaired_of words room) ≡ some (fixed_of words)
 unfolding repaired_of
-fixed-said words room e = ap (λ (o : Option Refusal). fixed_in (repaired_by o (fixed_of words))) e
+fixed-said words room e = ap (λ (o : Option Refusal). fixed_in (answer_of o (fixed_of words))) e
 
 -- words of ten bits with 2e + f at most 6 against what was sent, into room for them: the answer is how many words differ, and what was sent is left
 pub repair-answers : (c words old : List ℕ) → WithinMarked (confessed words) (low_bytes words) c → narrow words ≡ true → length old ≡ 254
-    → (repaired_of words (length old) ≡ Fixed (changes words (sound_words c))) × (repair_leaves words old ≡ sound_words c)
+    → (repaired_of words (length old) ≡ Ok (changes words (sound_words c))) × (repair_leaves words old ≡ sound_words c)
+unfolding repaired_of repair_leaves
 repair-answers c words old W w m =
     let R = repair-recovers c words W in
-    let A = all_right words old (sym (low_bytes-length words) ∙ sym W.long ∙ W.word.long) w R.readable m in
-    (sym A.right ∙ ap Fixed R.counted, sym A.kept ∙ R.recovered)
+    let o = all_right words (length old) (sym (low_bytes-length words) ∙ sym W.long ∙ W.word.long) w R.readable m in
+    rw o (ap Ok R.counted, R.recovered)
 
 -- where nothing is refused, what is left are the words of a codeword that one of the rules allows
 pub passed-allowed : (words old : List ℕ) → repair_refusal words (length old) ≡ none
     → (c : List ℕ) × (WithinMarked (confessed words) (low_bytes words) c ⊎ Within (low_bytes words) c) × (repair_leaves words old ≡ sound_words c)
-unfolding repair_refusal rewritten
+unfolding repair_refusal repair_leaves rewritten
 passed-allowed words old e =
     let wide = (require-passed (eqb (length words) 254) _ _ e).1 in
     let beyond = (require-passed (narrow words) _ _ wide).1 in
     let room : repairable words ≡ true = (require-passed (repairable words) _ _ beyond).0 in
-    (repaired words, repaired-allowed words room, sym (answer words old none e).kept)
+    (repaired words, repaired-allowed words room, ap (λ (o : Option Refusal). left_by o (sound_words (repaired words)) old) e)

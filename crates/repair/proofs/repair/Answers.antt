@@ -1,63 +1,106 @@
--- `repair::repair` meets its contract: each return is one case of the chain of refusals, by what its callees ensure.
+-- `repair::repair` meets its contract: each check that failed is the refusal, and behind them the words are rewritten and counted.
 -- Assumes nothing.
-use mathlib.Core.Path.{◌≡◌, sym, ap, ◌∙◌}
-use mathlib.Core.Bool.{true}
+use mathlib.Core.Path.{◌≡◌, refl, sym, ap, ◌∙◌}
 use mathlib.Core.List.{List}
 use Prim.Native.Nat.{ℕ}
-use lib.ListN.{length}
-use Rattle.refusal.specs.Checked.{checked_of}
+use borrow.Author.Tests.{eqb-true}
+use lib.ListN.{length, replicate}
+use Rattle.std.specs.Prelude.{Ok, Err, eqb}
+use Rattle.refusal.specs.declared.Refusal.{Refusal}
+use Rattle.refusal.specs.Chain.{require, passed}
+use Rattle.refusal.specs.Checked.{Checked, checked_of}
+use Rattle.refusal.proofs.Laws.Chain.{chained-none, handed-on, went-on, stopped, decided, kept-by, left-by, check-passed}
 use Rattle.rs.specs.Decode.{changes}
 use Rattle.search.specs.Marked.{marked_refusal, marked_leaves}
 use Rattle.search.proofs.Laws.Marked.{marked-leaves}
-use Rattle.repair.specs.declared.Repaired.TheVariants.{Fixed, Refused}
-use Rattle.repair.specs.Protected.{repaired, rewritten, fixed_of}
-use Rattle.anc.specs.Words.{sound_words, narrow}
-use Rattle.anc.proofs.Laws.Words.{low_bytes-length, low-filled, sound-filled}
+use Rattle.repair.specs.Protected.{repaired, rewritten, fixed_of, repair_refusal}
+use Rattle.repair.specs.Repair.{repaired_of, repair_leaves}
+use Rattle.anc.specs.Words.{sound_words}
+use Rattle.anc.proofs.Laws.Words.{low_bytes-length, low-filled, sound-filled, low-never, sound-never}
 use Rattle.repair.proofs.Laws.Changes.{counted_words}
-use Rattle.repair.proofs.Laws.Repair.{repaired-length, wrong_size, too_wide, beyond-repair, within-repair, wrong-room, all_right}
+use Rattle.repair.proofs.Laws.Repair.{repaired-length, near-said}
 use Rattle.repair.proofs.repair.Goals as goal
 
-pub returns-then-words-ne254 : goal.returns-then-words-ne254
-returns-then-words-ne254 c =
-    let A = wrong_size c.args.words.now c.args.out.now c.if-words-ne254.true in
-    (ap Refused c.plain.ensures ∙ A.right, A.kept)
+-- a check that failed is the answer, and leaves what was there
+kept : (words old : List ℕ) (w : Refusal) → Err w ≡ checked_of (repair_refusal words (length old)) → (Err w ≡ repaired_of words (length old)) × (old ≡ repair_leaves words old)
+unfolding repaired_of repair_leaves
+kept words old = kept-by (repair_refusal words (length old)) (fixed_of words) (rewritten words) old
 
-pub returns-then-not-narrow : goal.returns-then-not-narrow
-returns-then-not-narrow c =
-    let A = too_wide c.args.words.now c.args.out.now c.if-words-ne254.false (sym c.narrow.ensures ∙ c.if-not-narrow.true) in
-    (ap Refused c.plain-then-not-narrow.ensures ∙ A.right, A.kept)
+pub returns-in_err-require : goal.returns-in_err-require
+unfolding repair_refusal
+returns-in_err-require c =
+    rw (handed-on _ c.from_residual.ensures.1)
+    (kept c.args.words.now c.args.out.now _ (stopped _ chained-none c.require.ensures refl c.plain.ensures c.in_err-require.was))
 
-pub returns-in-Refused : goal.returns-in-Refused
-returns-in-Refused c =
+pub returns-in_err-require-2 : goal.returns-in_err-require-2
+unfolding repair_refusal
+returns-in_err-require-2 c =
+    let size = went-on chained-none c.require.ensures refl c.plain.ensures c.in_ok-require.was in
+    rw (handed-on _ c.from_residual-in_err-require-2.ensures.1)
+    (kept c.args.words.now c.args.out.now _ (stopped _ size c.require-2.ensures c.narrow.ensures c.plain-2.ensures c.in_err-require-2.was))
+
+-- so many words are asked for
+long : (words : List ℕ) (why : Refusal) {a : Checked} → a ≡ checked_of (require (eqb (length words) 254) why passed) → a ≡ Ok tt → length words ≡ 254
+long words why e h = eqb-true (length words) 254 (check-passed _ why (sym h ∙ e))
+
+pub returns-in_err-low_bytes : goal.returns-in_err-low_bytes
+returns-in_err-low_bytes c =
     let ws = c.args.words.now in
-    let low = low-filled _ ws _ c.low_bytes.ensures.1 c.if-words-ne254.false in
-    let n : narrow ws ≡ true = sym c.narrow.ensures ∙ c.if-not-narrow.false in
-    let A = beyond-repair ws c.args.out.now c.repair_marked-near.result c.if-words-ne254.false (c.repair_marked-near.ensures.0 ∙ ap (λ (l : List ℕ). checked_of (marked_refusal ws l)) low) _ n c.in-Refused.is in
-    (A.right, A.kept)
+    absurd (low-never ws (replicate 254 0) (long ws _ c.require.ensures c.in_ok-require.was) c.low_bytes.ensures.0 c.in_err-low_bytes.was)
 
-pub returns-then-out-ne254 : goal.returns-then-out-ne254
-returns-then-out-ne254 c =
+pub returns-in_err-repair_marked : goal.returns-in_err-repair_marked
+unfolding repair_refusal
+returns-in_err-repair_marked c =
     let ws = c.args.words.now in
-    let old = c.args.out.now in
-    let low = low-filled _ ws _ c.low_bytes.ensures.1 c.if-words-ne254.false in
-    let n : narrow ws ≡ true = sym c.narrow.ensures ∙ c.if-not-narrow.false in
-    let y = within-repair ws old c.repair_marked-near.result c.if-words-ne254.false (c.repair_marked-near.ensures.0 ∙ ap (λ (l : List ℕ). checked_of (marked_refusal ws l)) low) c.in-Passed.is in
-    let A = wrong-room ws old c.if-words-ne254.false n y c.if-out-ne254.true in
-    (ap Refused c.plain-then-out-ne254.ensures ∙ A.right, A.kept)
+    let n = long ws _ c.require.ensures c.in_ok-require.was in
+    let low = low-filled _ ws _ c.low_bytes.ensures.1 n in
+    let near = near-said ws n (c.repair_marked.ensures.0 ∙ ap (λ (l : List ℕ). checked_of (marked_refusal ws l)) low) in
+    let size = went-on chained-none c.require.ensures refl c.plain.ensures c.in_ok-require.was in
+    let wide = went-on size c.require-2.ensures c.narrow.ensures c.plain-2.ensures c.in_ok-require-2.was in
+    rw (handed-on _ c.from_residual-in_err-repair_marked.ensures.1) (kept ws c.args.out.now _ (stopped _ wide near refl refl c.in_err-repair_marked.was))
+
+pub returns-in_err-require-3 : goal.returns-in_err-require-3
+unfolding repair_refusal
+returns-in_err-require-3 c =
+    let ws = c.args.words.now in
+    let n = long ws _ c.require.ensures c.in_ok-require.was in
+    let low = low-filled _ ws _ c.low_bytes.ensures.1 n in
+    let near = near-said ws n (c.repair_marked.ensures.0 ∙ ap (λ (l : List ℕ). checked_of (marked_refusal ws l)) low) in
+    let size = went-on chained-none c.require.ensures refl c.plain.ensures c.in_ok-require.was in
+    let wide = went-on size c.require-2.ensures c.narrow.ensures c.plain-2.ensures c.in_ok-require-2.was in
+    let beyond = went-on wide near refl refl c.in_ok-repair_marked.was in
+    rw (handed-on _ c.from_residual-in_err-require-3.ensures.1) (kept ws c.args.out.now _ (stopped _ beyond c.require-3.ensures refl c.plain-3.ensures c.in_err-require-3.was))
+
+-- what is repaired has as many bytes as there is room for
+repaired-long : (words got : List ℕ) → length words ≡ 254 → got ≡ repaired words → length got ≡ 254
+repaired-long words got n e = ap length e ∙ repaired-length words ∙ n
+
+pub returns-in_err-sound_words : goal.returns-in_err-sound_words
+unfolding repaired
+returns-in_err-sound_words c =
+    let ws = c.args.words.now in
+    let n = long ws _ c.require.ensures c.in_ok-require.was in
+    let room = long c.args.out.now _ c.require-3.ensures c.in_ok-require-3.was in
+    let low = low-filled _ ws _ c.low_bytes.ensures.1 n in
+    let same = c.repair_marked.ensures.1 ∙ ap (marked_leaves ws) low ∙ marked-leaves ws _ n (low_bytes-length ws ∙ n) in
+    absurd (sound-never _ _ (repaired-long ws _ n same ∙ sym room) c.sound_words.ensures.0 c.in_err-sound_words.was)
 
 pub returns : goal.returns
-unfolding repaired rewritten fixed_of
+unfolding repaired_of repair_leaves repair_refusal repaired rewritten fixed_of
 returns c =
     let ws = c.args.words.now in
     let old = c.args.out.now in
-    let long = c.if-words-ne254.false in
-    let room = c.if-out-ne254.false in
-    let low = low-filled _ ws _ c.low_bytes.ensures.1 long in
-    let n : narrow ws ≡ true = sym c.narrow.ensures ∙ c.if-not-narrow.false in
-    let y = within-repair ws old c.repair_marked-near.result long (c.repair_marked-near.ensures.0 ∙ ap (λ (l : List ℕ). checked_of (marked_refusal ws l)) low) c.in-Passed.is in
-    let same = c.repair_marked-near.ensures.1 ∙ ap (marked_leaves ws) low ∙ marked-leaves ws _ long (low_bytes-length ws ∙ long) in
-    let bytes-long = ap length same ∙ repaired-length ws ∙ long in
-    let A = all_right ws old long n y room in (
-      c.count_fixed.ensures ∙ sym (counted_words ws _ long bytes-long) ∙ ap (λ (bs : List ℕ). Fixed (changes ws (sound_words bs))) same ∙ A.right,
-      sound-filled _ _ _ c.sound_words.ensures.1 (bytes-long ∙ sym room) ∙ ap sound_words same ∙ A.kept,
+    let n = long ws _ c.require.ensures c.in_ok-require.was in
+    let room = long old _ c.require-3.ensures c.in_ok-require-3.was in
+    let low = low-filled _ ws _ c.low_bytes.ensures.1 n in
+    let near = near-said ws n (c.repair_marked.ensures.0 ∙ ap (λ (l : List ℕ). checked_of (marked_refusal ws l)) low) in
+    let size = went-on chained-none c.require.ensures refl c.plain.ensures c.in_ok-require.was in
+    let wide = went-on size c.require-2.ensures c.narrow.ensures c.plain-2.ensures c.in_ok-require-2.was in
+    let beyond = went-on wide near refl refl c.in_ok-repair_marked.was in
+    let all = decided passed (went-on beyond c.require-3.ensures refl c.plain-3.ensures c.in_ok-require-3.was) refl in
+    let same = c.repair_marked.ensures.1 ∙ ap (marked_leaves ws) low ∙ marked-leaves ws _ n (low_bytes-length ws ∙ n) in
+    let m = repaired-long ws _ n same in
+    let A = left-by (repair_refusal ws (length old)) (fixed_of ws) (rewritten ws) old all in (
+      c.count_fixed.ensures ∙ sym (counted_words ws _ n m) ∙ ap (λ (bs : List ℕ). Ok (changes ws (sound_words bs))) same ∙ A.0,
+      sound-filled _ _ _ c.sound_words.ensures.1 (m ∙ sym room) ∙ ap sound_words same ∙ A.1,
     )
