@@ -17,12 +17,9 @@ use refusal::{Reason, Refusal};
 pub fn divisor() -> [u8; 6]
     ensures { result ≡ divisor_bytes }
 {
-    let mut product = [0u8, 0, 0, 0, 0, 1];
-    let mut j = 0;
-    while j < 6 {
-        let next = division::with_root(product, j);
-        product = next;
-        j += 1;
+    let mut product = [0, 0, 0, 0, 0, 1];
+    for j in 0..6 {
+        division::add_root(&mut product, j);
     }
     product
 }

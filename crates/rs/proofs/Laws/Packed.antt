@@ -11,7 +11,7 @@ use lib.Bits.{bit_xor, xor_block, xor_comm, xor_shifted}
 use lib.Dec.{lit<}
 use lib.ListN.{length, length-append, length-set, take, drop, get_or, set}
 use lib.Pow.{pow_mono}
-use lib.Seq.{take_all, get_or-drop, get_or-set_same, get_or-set_other}
+use lib.Seq.{get_or-set_same, get_or-set_other}
 use Rattle.gf256.specs.Field.{◌⊕◌, ◌⊗◌, double, pow}
 use Rattle.basics.proofs.Laws.Test.{lt-or-le}
 use Rattle.gf256.proofs.Laws.Sum.{⊕-assoc, ⊕-comm, ⊕-self, ⊕-zero-r, ⊕-lt}
@@ -21,10 +21,10 @@ use Rattle.rs.specs.Codeword.{divisor_bytes, next, remainder, parity_of, left_of
 use Rattle.basics.specs.Below.{Bytes}
 use Rattle.rs.specs.Packed.{pack, unpack, turn, Multiples, Extended}
 use Rattle.rs.proofs.Laws.Polynomial.{length-scale, ⊞-bytes, scale-bytes}
-use Rattle.basics.proofs.Laws.Below.{at-below, append-below, drop-below}
-use Rattle.basics.proofs.Laws.Parts.{entries, part-entries, all-entries}
+use Rattle.basics.proofs.Laws.Below.{append-below, drop-below}
+use Rattle.basics.proofs.Laws.Parts.{entries, all-entries}
 use Rattle.rs.proofs.Laws.Division.{parity-length, parity-bytes, parity-step}
-use Rattle.rs.proofs.Laws.Codeword.{last-six, as_long, left-six}
+use Rattle.rs.proofs.Laws.Codeword.{as_long, left-six}
 
 -- ---- sums
 
@@ -134,16 +134,10 @@ look_up g t s j b e = ap (λ (n : ℕ). get_or t n 0) e ∙ b (s % 256) (mod-lt 
 
 -- ---- the remainder of data with six bytes
 
--- the parity of the first 248 and the last six, one by one, add up to the remainder
-pub remainder-sum : (l : List ℕ) → length l ≡ 254 → ((i : ℕ) → get_or l i 0 < 256)
-    → pack (parity_of (take 248 l)) ⊕ pack (entries 6 248 l) ≡ pack (left_of l)
+-- the parity of the first 248 and the last six add up to the remainder
+pub remainder-sum : (l : List ℕ) → length l ≡ 254 → Bytes l → pack (parity_of (take 248 l)) ⊕ pack (drop 248 l) ≡ pack (left_of l)
 unfolding left_of
-remainder-sum l e h =
-    let m : List ℕ = drop 248 l in
-    let p : List ℕ = parity_of (take 248 l) in
-    let b : Bytes m = at-below 256 m (λ i. rw get_or-drop (h (248 + i))) in
-    ap (λ (k : List ℕ). pack p ⊕ pack k) (sym (part-entries 6 248 l (omega arith)) ∙ take_all 6 m (omega (arith, last-six l e)))
-    ∙ sym (pack-⊞ p m (as_long l e) (parity-bytes (take 248 l)) b)
+remainder-sum l e b = sym (pack-⊞ (parity_of (take 248 l)) (drop 248 l) (as_long l e) (parity-bytes (take 248 l)) (drop-below 256 248 l b))
 
 left-bytes : (l : List ℕ) → Bytes l → Bytes (left_of l)
 unfolding left_of
@@ -197,6 +191,10 @@ scale_one (c ∷ l) x = ap₂ (λ (y : ℕ) (z : List ℕ). y ∷ z) (⊗-one-l 
 power_le : (k : ℕ) → k < 8 → 2 ^ k ≤ 128
 power_le k h = pow_mono {i = k} {j = 7} (le_of_suc-le-suc h)
 
+-- what a shift gives
+pub shifted : (k : ℕ) → k < 8 → 1 * 2 ^ k % 0x1_0000_0000_0000_0000 ≡ 2 ^ k
+shifted k h = omega (arith, power_le k h)
+
 -- below 2^8 the powers of 2 in the field are those of numbers
 pow-plain : (k : ℕ) → k < 8 → pow 2 k ≡ 2 ^ k
 unfolding pow
@@ -244,43 +242,35 @@ multiples-more k row g t u b r x f h =
     (lt-or-le f (2 ^ k))
 
 -- after k rows: t has the multiples below 2^k, and the row that comes next is 2^k g
-pub record Filling (k size : ℕ) (g row t : List ℕ) : Type 0 where
-  pub long : length t ≡ 256
+pub record Filling (k : ℕ) (g row t : List ℕ) : Type 0 where
   pub within : k ≤ 8
-  pub power : size ≡ 2 ^ k
-  pub filled : Multiples size g t
+  pub filled : Multiples (2 ^ k) g t
   pub next_row : row ≡ scale (pow 2 k) g
 
-pub fill_none : (g t : List ℕ) → length t ≡ 256 → Bytes g → get_or t 0 0 ≡ 0 → Filling 0 1 g g t
+pub fill_none : (g t : List ℕ) → Bytes g → get_or t 0 0 ≡ 0 → Filling 0 g g t
 unfolding pow
-fill_none g t n b z = record {
-  long = n;
+fill_none g t b z = record {
   within = omega arith;
-  power = refl;
   filled = λ f h.
       let e : f ≡ 0 = omega arith in
       ap (λ (n : ℕ). get_or t n 0) e ∙ z ∙ sym (multiple-zero g) ∙ ap (λ (n : ℕ). pack (scale n g)) (sym e);
   next_row = sym (scale_one g b);
 }
 
-pub fill_more : (k size r : ℕ) (g row row' t u : List ℕ) → k < 8 → Filling k size g row t → r ≡ pack row → Extended size size r t u
-    → row' ≡ scale 2 row → Filling (k + 1) (size * 2) g row' u
+pub fill_more : (k r : ℕ) (g row row' t u : List ℕ) → k < 8 → Filling k g row t → r ≡ pack row → (size : ℕ) → size ≡ 2 ^ k → Extended size size r t u
+    → row' ≡ scale 2 row → Filling (k + 1) g row' u
 unfolding pow
-fill_more k size r g row row' t u h f e x d = record {
-  long = x.long ∙ f.long;
+fill_more k r g row row' t u h f e size z x d = record {
   within = omega arith;
-  power = ap (λ (n : ℕ). n * 2) f.power ∙ sym (pow-suc 2 k) ∙ ap (λ (n : ℕ). 2 ^ n) (sym (add-one k));
   filled = λ i l.
-      multiples-more k r g t u (subst (λ (n : ℕ). Multiples n g t) f.power f.filled)
-      (e ∙ ap pack f.next_row ∙ ap (λ (n : ℕ). pack (scale n g)) (pow-plain k h))
-      (subst (λ (n : ℕ). Extended n n r t u) f.power x) i (omega (arith, f.power));
+      multiples-more k r g t u f.filled (e ∙ ap pack f.next_row ∙ ap (λ (n : ℕ). pack (scale n g)) (pow-plain k h)) (subst (λ (n : ℕ). Extended n n r t u) z x) i
+      (omega (arith, pow-suc 2 k, ap (λ (n : ℕ). 2 ^ n) (add-one k)));
   next_row = d ∙ ap (scale 2) f.next_row ∙ scale-scale 2 (pow 2 k) g ∙ ap (λ (n : ℕ). scale (pow 2 n) g) (sym (add-one k));
 }
 
-pub fill-size : (k size : ℕ) (g row t : List ℕ) → k < 8 → Filling k size g row t → size ≤ 128
-fill-size k size g row t h f = omega (arith, f.power, power_le k h)
+pub fill-size : (k : ℕ) → k < 8 → 1 * 2 ^ k % 0x1_0000_0000_0000_0000 ≤ 128
+fill-size k h = rw (shifted k h) (power_le k h)
 
-pub fill-all : (k size : ℕ) (g row t : List ℕ) → 8 ≤ k → Filling k size g row t → Multiples 256 g t
-fill-all k size g row t h f =
-    let e : k ≡ 8 = omega arith in
-    subst (λ (n : ℕ). Multiples n g t) (f.power ∙ ap (λ (n : ℕ). 2 ^ n) e) f.filled
+-- after eight rows they are all there
+pub fill-all : (k : ℕ) (g row t : List ℕ) → 8 ≤ k → Filling k g row t → Multiples 256 g t
+fill-all k g row t h f = let e : k ≡ 8 = omega (arith, f.within) in subst (λ (n : ℕ). Multiples (2 ^ n) g t) e f.filled

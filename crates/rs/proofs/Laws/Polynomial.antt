@@ -2,12 +2,16 @@
 -- two and a list with one coefficient changed.
 -- Assumes nothing.
 use mathlib.Core.Path.{◌≡◌, refl, sym, ap, ap₂, ◌∙◌}
-use mathlib.Core.List.{List, [], ◌∷◌, ◌++◌}
-use Prim.Native.Nat.{ℕ, zero, suc, pred, ◌+◌, ◌<◌}
-use native.Mathlib.Nat.{suc_inj, suc-add, zero-add}
+use mathlib.Core.List.{List, [], ◌∷◌, ◌++◌, append-nil}
+use Prim.Native.Nat.{ℕ, zero, suc, pred, ◌+◌, ◌<◌, ◌≤◌}
+use native.Mathlib.Nat.{suc_inj, suc-add, zero-add, le_of_suc-le-suc, eq-or-lt_of_le}
+use native.Mathlib.Numerals.{add-one}
+use mathlib.Core.Logic.{⊎_elim}
 use native.Mathlib.Omega.{arith}
 use lib.Dec.{lit<}
-use lib.ListN.{length, get_or, set, length-append, length-replicate, length-set}
+use lib.ListN.{length, get_or, set, take, drop, length-append, length-replicate, length-set, drop_of_length-le}
+use lib.Seq.{take_all, get_or-set_same, get_or-set_other}
+use Rattle.basics.proofs.Laws.Parts.{all-entries}
 use Rattle.gf256.specs.Field.{◌⊕◌, ◌⊗◌, pow}
 use Rattle.gf256.proofs.Laws.Sum.{⊕-assoc, ⊕-comm, ⊕-self, ⊕-zero-l, ⊕-zero-r, ⊕-four, ⊕-lt}
 use Rattle.gf256.proofs.Laws.Product.{⊗-lt, ⊗-comm, ⊗-assoc, ⊗-⊕-l, ⊗-⊕-r, ⊗-zero-l, ⊗-zero-r, ⊗-one-r, pow-add}
@@ -213,3 +217,67 @@ value-six x (a ∷ b ∷ c ∷ d ∷ e ∷ f ∷ []) p q r s t n h ep eq er es e
     (horner x c p q (a ∷ b ∷ []) h.1.1.0
     (horner x b a p (a ∷ []) h.1.0 (sym (⊕-zero-r _ ∙ ⊗-one-r a h.0)) ep) eq) er) es) et
 value-six x (a ∷ b ∷ c ∷ d ∷ e ∷ f ∷ g ∷ l) p q r s t n h ep eq er es et = absurd (omega arith)
+
+-- ---- a polynomial scaled in place, coefficient by coefficient
+
+scaled_at : (f i : ℕ) (l : List ℕ) → i < length l
+    → set (scale f (take i l) ++ drop i l) i (f ⊗ get_or (scale f (take i l) ++ drop i l) i 0) ≡ scale f (take (suc i) l) ++ drop (suc i) l
+unfolding scale
+scaled_at f i [] h = absurd (omega arith)
+scaled_at f zero (a ∷ l) h = refl
+scaled_at f (suc i) (a ∷ l) h = ap (λ (m : List ℕ). f ⊗ a ∷ m) (scaled_at f i l (le_of_suc-le-suc h))
+
+pub scaled-none : (f : ℕ) (l : List ℕ) → l ≡ scale f (take 0 l) ++ drop 0 l
+unfolding scale
+scaled-none f l = refl
+
+-- one coefficient more
+pub scaled-more : (f i x : ℕ) (l m : List ℕ) → i < length l → m ≡ scale f (take i l) ++ drop i l → x ≡ f ⊗ get_or m i 0
+    → set m i x ≡ scale f (take (i + 1) l) ++ drop (i + 1) l
+scaled-more f i x l m h e q =
+    ap₂ (λ (k : List ℕ) (y : ℕ). set k i y) e (q ∙ ap (λ (k : List ℕ). f ⊗ get_or k i 0) e) ∙ scaled_at f i l h
+    ∙ ap (λ (n : ℕ). scale f (take n l) ++ drop n l) (sym (add-one i))
+
+-- all of them
+pub scaled-all : (f n : ℕ) (l : List ℕ) → length l ≤ n → scale f (take n l) ++ drop n l ≡ scale f l
+scaled-all f n l h = ap₂ (λ (k m : List ℕ). scale f k ++ m) (take_all n l h) (drop_of_length-le l h) ∙ append-nil _
+
+-- ---- a polynomial a power higher, added coefficient by coefficient to another: the six low coefficients of x p + s
+
+abbrev pub raised_sum : List ℕ → List ℕ → List ℕ
+raised_sum p s = drop 1 ((p ++ (0 ∷ [])) ⊞ (0 ∷ s))
+
+-- the first k of them stand, and behind them those of s
+pub record Raised (p s r : List ℕ) (k : ℕ) : Type 0 where
+  pub long : length r ≡ 6
+  pub done : (i : ℕ) → i < k → get_or r i 0 ≡ get_or s i 0 ⊕ get_or p (i + 1) 0
+  pub rest : (i : ℕ) → k ≤ i → get_or r i 0 ≡ get_or s i 0
+
+pub raised-none : (p s : List ℕ) → length s ≡ 6 → Raised p s s 0
+raised-none p s n = record { long = n; done = λ i h. absurd (omega arith); rest = λ i h. refl }
+
+pub raised-more : (p s r : List ℕ) (k x : ℕ) → k < 5 → Raised p s r k → x ≡ get_or r k 0 ⊕ get_or p (k + 1) 0 → Raised p s (set r k x) (k + 1)
+raised-more p s r k x h R e = record {
+  long = length-set r k x ∙ R.long;
+  done = λ i l.
+      ⊎_elim
+      (λ (q : i ≡ k). rw q (get_or-set_same r k x 0 (omega (arith, R.long)) ∙ e ∙ ap (λ (y : ℕ). y ⊕ get_or p (k + 1) 0) (R.rest k (omega arith))))
+      (λ (q : i < k). get_or-set_other r k i x 0 (λ z. omega arith) ∙ R.done i q) (eq-or-lt_of_le (omega arith));
+  rest = λ i l. get_or-set_other r k i x 0 (λ z. omega arith) ∙ R.rest i (omega arith);
+}
+
+pub raised-all : (p s r : List ℕ) → length p ≡ 6 → length s ≡ 6 → (k : ℕ) → k ≡ 5 → Raised p s r k → r ≡ raised_sum p s
+unfolding ◌⊞◌
+raised-all p s r m n k e R =
+    let at : (i : ℕ) → i < 5 → get_or r i 0 ≡ get_or p (i + 1) 0 ⊕ get_or s i 0 = λ i h. R.done i (omega arith) ∙ ⊕-comm _ _ in
+    cc (
+      ⊕-zero-l (get_or s 5 0),
+      all-entries 6 r R.long,
+      at 0 (omega arith),
+      at 1 (omega arith),
+      at 2 (omega arith),
+      at 3 (omega arith),
+      at 4 (omega arith),
+      R.rest 5 (omega arith),
+      ap₂ raised_sum (all-entries 6 p m) (all-entries 6 s n),
+    )

@@ -1,6 +1,5 @@
 -- `rs::divisor` meets its contract: before each turn, what the turns to come make of the product is G without its x^6.
 -- Assumes nothing.
-use borrow.Author.Rules.{rules}
 use mathlib.Core.Path.{◌≡◌, refl, ap, ◌∙◌}
 use mathlib.Core.List.{List, [], ◌∷◌}
 use Prim.Native.Nat.{ℕ, suc, ◌+◌, ◌-◌}
@@ -15,7 +14,7 @@ use Rattle.rs.proofs.divisor.Goals as goal
 
 pub loop-j-init : goal.loop-j-init
 unfolding turns divisor_bytes ◌⊠◌ ◌⊞◌ scale pow ◌⊗◌ by_bits double ◌⊕◌
-loop-j-init c = (refl, omega arith)
+loop-j-init c = refl
 
 pub loop-j-preserved : goal.loop-j-preserved
 unfolding turns
@@ -25,13 +24,11 @@ loop-j-preserved c =
     let n : ℕ = end - (j + 1) in
     let one_more : suc n ≡ end - j = omega arith in
     let next : List ℕ = drop 1 (loop.product ⊠ (1 ∷ pow 2 j ∷ [])) in
-    let made : turns n (j + 1) next ≡ divisor_bytes =
-    ap (λ (i : ℕ). turns n i next) (add-one j) ∙ ap (λ (m : ℕ). turns m j loop.product) one_more ∙ loop.invariant.0 in
-    (ap (turns n (j + 1)) c.with_root-next.ensures ∙ made, search rules)
+    ap (turns n (j + 1)) c.add_root.ensures ∙ ap (λ (i : ℕ). turns n i next) (add-one j) ∙ ap (λ (m : ℕ). turns m j loop.product) one_more ∙ loop.invariant
 
 pub returns : goal.returns
 unfolding turns
 returns c =
     let loop = c.loop-j in
     let none : 0 ≡ end - loop.j = omega arith in
-    ap (λ (m : ℕ). turns m loop.j loop.product) none ∙ loop.invariant.0
+    ap (λ (m : ℕ). turns m loop.j loop.product) none ∙ loop.invariant

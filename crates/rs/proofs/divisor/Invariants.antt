@@ -2,7 +2,7 @@
 -- Assumes nothing.
 use mathlib.Core.Path.{◌≡◌}
 use mathlib.Core.List.{List, [], ◌∷◌}
-use Prim.Native.Nat.{ℕ, zero, suc, ◌-◌, ◌≤◌}
+use Prim.Native.Nat.{ℕ, zero, suc, ◌-◌}
 use lib.ListN.{drop}
 use Rattle.gf256.specs.Field.{pow}
 use Rattle.rs.specs.Polynomial.{◌⊠◌}
@@ -19,7 +19,4 @@ abbrev pub end : ℕ
 end = 6
 
 abbrev pub invariant-loop-j : goal.invariant-loop-j
-invariant-loop-j l = (turns (end - l.j) l.j l.product ≡ divisor_bytes) × (l.j ≤ end)
-
-abbrev pub decreases-loop-j : goal.decreases-loop-j
-decreases-loop-j l = end - l.j
+invariant-loop-j l = turns (end - l.j) l.j l.product ≡ divisor_bytes

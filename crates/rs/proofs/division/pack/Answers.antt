@@ -1,15 +1,9 @@
--- `rs::division::pack` meets its contract: Horner's scheme, from the last byte on.
+-- `rs::division::pack` meets its contract: each byte is worth its power of 256.
 -- Assumes nothing.
 use borrow.Author.Rules.{rules}
-use mathlib.Core.Path.{◌≡◌}
-use mathlib.Core.List.{List}
-use Prim.Native.Nat.{ℕ}
-use lib.ListN.{length}
+use native.Mathlib.Omega.{arith}
 use Rattle.rs.proofs.Laws.Packed.{pack-six}
 use Rattle.rs.proofs.division.pack.Goals as goal
 
 pub returns : goal.returns
-returns c =
-    let g : List ℕ = c.args.g in
-    let h : length g ≡ 6 = search rules in
-    cc (pack-six g h)
+returns c = omega (arith, c.from_le_bytes.ensures, pack-six c.args.g (search rules))

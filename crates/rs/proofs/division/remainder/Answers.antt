@@ -1,15 +1,23 @@
 -- `rs::division::remainder` meets its contract: the numbers of the parity and of the last six bytes add as the lists do.
 -- Assumes nothing.
-use borrow.Author.Rules.{rules}
-use mir.Val.{Fits}
-use mir.Syntax.{w8}
-use lib.ListN.{get_or}
-use mathlib.Core.Path.{ap₂, ◌∙◌}
+use mathlib.Core.Path.{◌≡◌, ap, ap₂, ◌∙◌}
+use mathlib.Core.List.{List}
+use Prim.Native.Nat.{ℕ, ◌-◌}
 use native.Mathlib.Omega.{arith}
+use lib.ListN.{length, take, drop}
+use Rattle.basics.proofs.Laws.Below.{at-below}
 use Rattle.gf256.specs.Field.{◌⊕◌}
+use Rattle.rs.specs.Codeword.{parity_of}
+use Rattle.rs.specs.Packed.{pack}
 use Rattle.rs.proofs.Laws.Packed.{remainder-sum}
 use Rattle.rs.proofs.division.remainder.Goals as goal
 
 pub returns : goal.returns
-returns c = c.xor.ensures ∙ ap₂ ◌⊕◌ c.parity.ensures c.pack.ensures
-    ∙ remainder-sum c.args.block.now c.requires (λ i. let b : Fits w8 (get_or c.args.block.now i 0) = search rules in omega (arith, b))
+unfolding ◌⊕◌
+returns c =
+    let l : List ℕ = c.args.block.now in
+    let parts = rw c.unwrap.ensures at c.split_last_chunk.ensures.cases in
+    let n : length l - 6 ≡ 248 = omega arith in
+    ap₂ ◌⊕◌ (c.parity.ensures ∙ ap (λ (m : List ℕ). pack (parity_of m)) (parts.0 ∙ ap (λ (k : ℕ). take k l) n))
+    (c.pack.ensures ∙ ap pack (parts.1 ∙ ap (λ (k : ℕ). drop k l) n))
+    ∙ remainder-sum l c.requires (at-below 256 l (λ i. (c.type_inv.block i).fits))
