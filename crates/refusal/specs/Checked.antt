@@ -15,7 +15,8 @@ Checked = Result (Unit {0}) Refusal
 
 -- the answer of a check: no refusal has passed
 abbrev pub checked_of : Option Refusal → Checked
-checked_of o = answer_of o tt
+checked_of none = Ok tt
+checked_of (some no') = Err no'
 
 -- the refusal, with its number and place, that an answer gives
 abbrev pub refusal_in : {A : Type 0} → Result A Refusal → Option Refusal

@@ -108,27 +108,27 @@ told o a b e d = sym (refusal-in o) ∙ ap refusal_in (sym e ∙ d)
 pub passed-refused : {A : Type 0} (x : A) (why : Refusal) → Ok x ≡ Err why → ⊥
 passed-refused x why e = passed-other why (ap refusal_in e)
 
--- an answer that is a refusal, or a value, is so by what the call is refused for
-pub refused-is : {A : Type 0} (o : Option Refusal) (x : A) (w : Refusal) → Err w ≡ answer_of o x → o ≡ some w
-refused-is o x w e = sym (refusal-in-answer o x) ∙ ap refusal_in (sym e)
+-- an answer that is a refusal, or none, is so by what the call is refused for
+pub refused-is : (o : Option Refusal) (w : Refusal) → Err w ≡ checked_of o → o ≡ some w
+refused-is o w e = sym (refusal-in o) ∙ ap refusal_in (sym e)
 
-pub done-is : {A : Type 0} (o : Option Refusal) (x y : A) → Ok y ≡ answer_of o x → o ≡ none
-done-is o x y e = sym (refusal-in-answer o x) ∙ ap refusal_in (sym e)
+pub done-is : (o : Option Refusal) → Ok tt ≡ checked_of o → o ≡ none
+done-is o e = sym (refusal-in o) ∙ ap refusal_in (sym e)
 
 -- and what the checks said tells the answer
 pub err-by : {A : Type 0} (o : Option Refusal) (x : A) (w : Refusal) → Err w ≡ checked_of o → Err w ≡ answer_of o x
-err-by o x w e = rw (refused-is o tt w e) refl
+err-by o x w e = rw (refused-is o w e) refl
 
 pub ok-by : {A : Type 0} (o : Option Refusal) (x : A) → Ok tt ≡ checked_of o → Ok x ≡ answer_of o x
-ok-by o x e = rw (done-is o tt tt e) refl
+ok-by o x e = rw (done-is o e) refl
 
 -- and what is left
-module _ {A X : Type 0} (o : Option Refusal) (x : A) (new old : X) where
-  pub kept-by : (w : Refusal) → Err w ≡ checked_of o → (Err w ≡ answer_of o x) × (old ≡ left_by o new old)
-  kept-by w e = (err-by o x w e, rw (refused-is o tt w e) refl)
+module _ {X : Type 0} (o : Option Refusal) (new old : X) where
+  pub kept-by : (w : Refusal) → Err w ≡ checked_of o → old ≡ left_by o new old
+  kept-by w e = rw (refused-is o w e) refl
 
-  pub left-by : Ok tt ≡ checked_of o → (Ok x ≡ answer_of o x) × (new ≡ left_by o new old)
-  left-by e = (ok-by o x e, rw (done-is o tt tt e) refl)
+  pub left-by : Ok tt ≡ checked_of o → new ≡ left_by o new old
+  left-by e = rw (done-is o e) refl
 
 -- ---- a test that a call answered
 
@@ -220,9 +220,9 @@ decided o c e = e ∙ ap checked_of (c.behind o)
 -- and so with the checks of a further call, that passed or that did not
 pub went-past : {a : Checked} {chain : Option Refusal → Option Refusal} (o : Option Refusal) → Chained (Ok tt) chain → a ≡ checked_of o → a ≡ Ok tt
     → Chained (Ok tt) (λ rest. chain (next o rest))
-went-past {chain} o c e h = let none-of = done-is o tt tt (sym h ∙ e) in record { behind = λ rest. c.behind rest ∙ ap chain (sym (ap (λ (p : Option Refusal). next p rest) none-of)) }
+went-past {chain} o c e h = let none-of = done-is o (sym h ∙ e) in record { behind = λ rest. c.behind rest ∙ ap chain (sym (ap (λ (p : Option Refusal). next p rest) none-of)) }
 
 pub stopped-at : {a : Checked} {chain : Option Refusal → Option Refusal} {w : Refusal} (o rest : Option Refusal) → Chained (Ok tt) chain → a ≡ checked_of o → a ≡ Err w
     → Err w ≡ checked_of (chain (next o rest))
 stopped-at {chain} {w} o rest c e h =
-    let that = refused-is o tt w (sym h ∙ e) in ap checked_of (c.behind (some w) ∙ ap chain (sym (ap (λ (p : Option Refusal). next p rest) that)))
+    let that = refused-is o w (sym h ∙ e) in ap checked_of (c.behind (some w) ∙ ap chain (sym (ap (λ (p : Option Refusal). next p rest) that)))

@@ -9,7 +9,7 @@ use Rattle.std.specs.Prelude.{Ok, Err, eqb}
 use Rattle.refusal.specs.declared.Refusal.{Refusal}
 use Rattle.refusal.specs.Chain.{require, passed}
 use Rattle.refusal.specs.Checked.{Checked, checked_of}
-use Rattle.refusal.proofs.Laws.Chain.{chained-none, handed-on, went-on, stopped, decided, kept-by, left-by, check-passed}
+use Rattle.refusal.proofs.Laws.Chain.{chained-none, handed-on, went-on, stopped, decided, err-by, ok-by, kept-by, left-by, check-passed}
 use Rattle.rs.specs.Decode.{changes}
 use Rattle.search.specs.Marked.{marked_refusal, marked_leaves}
 use Rattle.search.proofs.Laws.Marked.{marked-leaves}
@@ -24,7 +24,9 @@ use Rattle.repair.proofs.repair.Goals as goal
 -- a check that failed is the answer, and leaves what was there
 kept : (words old : List ℕ) (w : Refusal) → Err w ≡ checked_of (repair_refusal words (length old)) → (Err w ≡ repaired_of words (length old)) × (old ≡ repair_leaves words old)
 unfolding repaired_of repair_leaves
-kept words old = kept-by (repair_refusal words (length old)) (fixed_of words) (rewritten words) old
+kept words old w e =
+    let o = repair_refusal words (length old) in
+    (err-by o (fixed_of words) w e, kept-by o (rewritten words) old w e)
 
 pub returns-in_err-require : goal.returns-in_err-require
 unfolding repair_refusal
@@ -100,7 +102,7 @@ returns c =
     let all = decided passed (went-on beyond c.require-3.ensures refl c.plain-3.ensures c.in_ok-require-3.was) refl in
     let same = c.repair_marked.ensures.1 ∙ ap (marked_leaves ws) low ∙ marked-leaves ws _ n (low_bytes-length ws ∙ n) in
     let m = repaired-long ws _ n same in
-    let A = left-by (repair_refusal ws (length old)) (fixed_of ws) (rewritten ws) old all in (
-      c.count_fixed.ensures ∙ sym (counted_words ws _ n m) ∙ ap (λ (bs : List ℕ). Ok (changes ws (sound_words bs))) same ∙ A.0,
-      sound-filled _ _ _ c.sound_words.ensures.1 (m ∙ sym room) ∙ ap sound_words same ∙ A.1,
+    let o = repair_refusal ws (length old) in (
+      c.count_fixed.ensures ∙ sym (counted_words ws _ n m) ∙ ap (λ (bs : List ℕ). Ok (changes ws (sound_words bs))) same ∙ ok-by o (fixed_of ws) all,
+      sound-filled _ _ _ c.sound_words.ensures.1 (m ∙ sym room) ∙ ap sound_words same ∙ left-by o (rewritten ws) old all,
     )
