@@ -5,7 +5,12 @@ use native.Mathlib.Omega.{arith}
 use lib.ListN.{length}
 use Rattle.items.proofs.Laws.Item.{place-given}
 use Rattle.record.proofs.Laws.Stored.{put-checks, put-laid}
+use Rattle.record.specs.Stored.{put_leaves}
 use Rattle.record.proofs.put_item.Goals as goal
+
+pub returns-in_err-require-2 : goal.returns-in_err-require-2
+unfolding put_leaves
+returns-in_err-require-2 c = (grind (arith, put-checks), grind (arith, put-checks))
 
 pub returns : goal.returns
 returns c =
