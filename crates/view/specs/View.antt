@@ -1,44 +1,32 @@
 -- The view of the record: what its bytes stand for, and the way back from the view to the items' bytes in the record.
 -- Assumes nothing.
-use Rattle.std.specs.Prelude.{Bool, cond, ◌&&◌, ℕ, ◌+◌, ◌*◌, ◌/◌, ◌%◌, ◌^◌, eqb, take, get_or}
-use mathlib.Core.List.{List, [], ◌∷◌, flatten}
+use Rattle.std.specs.Prelude.{Bool, cond, Option, Some, None, ◌&&◌, ℕ, ◌+◌, ◌*◌, ◌/◌, ◌%◌, ◌^◌, eqb, take, get_or}
+use mathlib.Core.List.{List, [], ◌∷◌, flatten, map}
 use Rattle.rules.specs.Rules.{decimal, low_half}
-use Rattle.view.specs.declared.TimeWord.{TimeWord}
-use Rattle.view.specs.declared.TimeWord.TheVariants.{Sent, Unsent}
-use Rattle.view.specs.declared.Milliseconds.{Milliseconds}
-use Rattle.view.specs.declared.Milliseconds.TheVariants.{Sent as BothSent, Unsent as NeitherSent}
 use Rattle.view.specs.declared.Time.{Time}
-use Rattle.view.specs.declared.PictureMode.{PictureMode}
-use Rattle.view.specs.declared.PictureMode.TheVariants.{Unused as NoPicture, Used as APicture}
-use Rattle.view.specs.declared.SoundMode.{SoundMode}
-use Rattle.view.specs.declared.SoundMode.TheVariants.{Unused as NoSound, Used as ASound}
-use Rattle.view.specs.declared.Countdown.{Countdown}
-use Rattle.view.specs.declared.Countdown.TheVariants.{Running, Stopped}
-use Rattle.view.specs.declared.Counter.{Counter}
-use Rattle.view.specs.declared.Counter.TheVariants.{At, Unused}
-use Rattle.view.specs.declared.Counters.{Counters}
-use Rattle.view.specs.declared.Countdowns.{Countdowns}
+use Rattle.view.specs.declared.Picture.{Picture}
+use Rattle.view.specs.declared.Sound.{Sound}
 use Rattle.view.specs.declared.RecordView.{RecordView}
 
 -- ---- the view of each kind of item
 
 -- a byte of the time: 0xFF is not sent
-unfoldable pub time_word_of : ℕ → TimeWord
-time_word_of b = cond (eqb b 0xFF) Unsent (Sent (decimal b))
+unfoldable pub time_word_of : ℕ → Option ℕ
+time_word_of b = cond (eqb b 0xFF) None (Some (decimal b))
 
 -- hundreds of milliseconds, then tens and units: the rules see to it that both are sent or neither is
-unfoldable pub milliseconds_of : ℕ → ℕ → Milliseconds
-milliseconds_of h l = cond (eqb h 0xFF) NeitherSent (BothSent (decimal h * 100 + decimal l))
+unfoldable pub milliseconds_of : ℕ → ℕ → Option ℕ
+milliseconds_of h l = cond (eqb h 0xFF) None (Some (decimal h * 100 + decimal l))
 
 -- is bit i set, b0 the lowest?
 abbrev pub bit_set : ℕ → ℕ → Bool
 bit_set i b = eqb (b / 2 ^ i % 2) 1
 
 -- W0 to W3: W0 is 0x00 for an unused mode, else 0x80 and the format; three bits are read for one format alone
-unfoldable pub picture_of : ℕ → ℕ → ℕ → ℕ → PictureMode
+unfoldable pub picture_of : ℕ → ℕ → ℕ → ℕ → Option Picture
 picture_of w0 w1 w2 w3 =
-    cond (eqb w0 0x00) NoPicture
-    (APicture
+    cond (eqb w0 0x00) None
+    (Some
     (record {
       format = w0 % 128;
       transport_progressive = eqb w0 0x85 && bit_set 7 w1;
@@ -53,16 +41,20 @@ picture_of w0 w1 w2 w3 =
     }))
 
 -- b4 to b0 are the mode and b7 to b5 the downmix; 0x00 is an unused mode
-unfoldable pub sound_of : ℕ → SoundMode
-sound_of b = cond (eqb b 0x00) NoSound (ASound (record { mode = b % 32; downmix = b / 32 }))
+unfoldable pub sound_of : ℕ → Option Sound
+sound_of b = cond (eqb b 0x00) None (Some (record { mode = b % 32; downmix = b / 32 }))
+
+-- a count of 0 to 254: 0xFF is none
+unfoldable pub count_of : ℕ → Option ℕ
+count_of b = cond (eqb b 0xFF) None (Some b)
 
 -- 0xFF is not running
-unfoldable pub countdown_of : ℕ → Countdown
-countdown_of b = cond (eqb b 0xFF) Stopped (Running b)
+abbrev pub countdown_of : ℕ → Option ℕ
+countdown_of b = count_of b
 
 -- 0xFF is not in use
-unfoldable pub counter_of : ℕ → Counter
-counter_of b = cond (eqb b 0xFF) Unused (At b)
+abbrev pub counter_of : ℕ → Option ℕ
+counter_of b = count_of b
 
 -- ---- the view of the whole; bytes are counted from 0
 
@@ -79,23 +71,15 @@ time_of bytes =
       milliseconds = milliseconds_of (get_or bytes 15 0) (get_or bytes 16 0);
     }
 
-unfoldable pub counters_of : List ℕ → Counters
-counters_of bytes =
-    record {
-      q1 = counter_of (get_or bytes 33 0);
-      q2 = counter_of (get_or bytes 34 0);
-      q3 = counter_of (get_or bytes 35 0);
-      q4 = counter_of (get_or bytes 36 0);
-    }
+-- four of them in a row
+abbrev pub counts_of : ℕ → ℕ → ℕ → ℕ → List (Option ℕ)
+counts_of a b c d = count_of a ∷ count_of b ∷ count_of c ∷ count_of d ∷ []
 
-unfoldable pub countdowns_of : List ℕ → Countdowns
-countdowns_of bytes =
-    record {
-      q1 = countdown_of (get_or bytes 37 0);
-      q2 = countdown_of (get_or bytes 38 0);
-      q3 = countdown_of (get_or bytes 39 0);
-      q4 = countdown_of (get_or bytes 40 0);
-    }
+unfoldable pub counters_of : List ℕ → List (Option ℕ)
+counters_of bytes = counts_of (get_or bytes 33 0) (get_or bytes 34 0) (get_or bytes 35 0) (get_or bytes 36 0)
+
+unfoldable pub countdowns_of : List ℕ → List (Option ℕ)
+countdowns_of bytes = counts_of (get_or bytes 37 0) (get_or bytes 38 0) (get_or bytes 39 0) (get_or bytes 40 0)
 
 -- bytes as a number, the first lowest
 abbrev pub pair_of : ℕ → ℕ → ℕ
@@ -127,13 +111,13 @@ view_of bytes =
 unfoldable pub packed : ℕ → ℕ
 packed n = n / 10 * 16 + n % 10
 
-unfoldable pub time_word_byte : TimeWord → ℕ
-time_word_byte (Sent n) = packed n
-time_word_byte Unsent = 0xFF
+unfoldable pub time_word_byte : Option ℕ → ℕ
+time_word_byte (Some n) = packed n
+time_word_byte None = 0xFF
 
-unfoldable pub milliseconds_bytes : Milliseconds → List ℕ
-milliseconds_bytes (BothSent n) = packed (n / 100) ∷ packed (n % 100) ∷ []
-milliseconds_bytes NeitherSent = 0xFF ∷ 0xFF ∷ []
+unfoldable pub milliseconds_bytes : Option ℕ → List ℕ
+milliseconds_bytes (Some n) = packed (n / 100) ∷ packed (n % 100) ∷ []
+milliseconds_bytes None = 0xFF ∷ 0xFF ∷ []
 
 unfoldable pub time_bytes : Time → List ℕ
 time_bytes t =
@@ -150,32 +134,34 @@ time_bytes t =
 abbrev pub bit_back : ℕ → Bool → ℕ
 bit_back i t = cond t (2 ^ i) 0
 
-unfoldable pub picture_bytes : PictureMode → List ℕ
-picture_bytes NoPicture = 0 ∷ 0 ∷ 0 ∷ 0 ∷ []
-picture_bytes (APicture p) =
+unfoldable pub picture_bytes : Option Picture → List ℕ
+picture_bytes None = 0 ∷ 0 ∷ 0 ∷ 0 ∷ []
+picture_bytes (Some p) =
     (0x80 + p.format)
     ∷ (bit_back 7 p.transport_progressive + bit_back 6 p.progressive + p.frame_rate)
     ∷ (bit_back 7 p.wide_picture + bit_back 6 p.samples_960 + bit_back 5 p.wide_display + p.sampling)
     ∷ (bit_back 6 p.second_link + bit_back 0 p.ten_bits)
     ∷ []
 
-unfoldable pub sound_mode_byte : SoundMode → ℕ
-sound_mode_byte NoSound = 0
-sound_mode_byte (ASound s) = s.downmix * 32 + s.mode
+unfoldable pub sound_mode_byte : Option Sound → ℕ
+sound_mode_byte None = 0
+sound_mode_byte (Some s) = s.downmix * 32 + s.mode
 
-unfoldable pub countdown_byte : Countdown → ℕ
-countdown_byte (Running n) = n
-countdown_byte Stopped = 0xFF
+unfoldable pub count_byte : Option ℕ → ℕ
+count_byte (Some n) = n
+count_byte None = 0xFF
 
-unfoldable pub counter_byte : Counter → ℕ
-counter_byte (At n) = n
-counter_byte Unused = 0xFF
+abbrev pub countdown_byte : Option ℕ → ℕ
+countdown_byte o = count_byte o
 
-unfoldable pub counters_bytes : Counters → List ℕ
-counters_bytes c = counter_byte c.q1 ∷ counter_byte c.q2 ∷ counter_byte c.q3 ∷ counter_byte c.q4 ∷ []
+abbrev pub counter_byte : Option ℕ → ℕ
+counter_byte o = count_byte o
 
-unfoldable pub countdowns_bytes : Countdowns → List ℕ
-countdowns_bytes c = countdown_byte c.q1 ∷ countdown_byte c.q2 ∷ countdown_byte c.q3 ∷ countdown_byte c.q4 ∷ []
+unfoldable pub counters_bytes : List (Option ℕ) → List ℕ
+counters_bytes q = map count_byte q
+
+unfoldable pub countdowns_bytes : List (Option ℕ) → List ℕ
+countdowns_bytes q = map count_byte q
 
 unfoldable pub pair_bytes : ℕ → List ℕ
 pair_bytes n = n % 256 ∷ n / 256 ∷ []

@@ -7,24 +7,16 @@ use Prim.Native.Nat.{ℕ}
 use native.Mathlib.Omega.{arith}
 use lib.Dec.{eqb}
 use lib.ListN.{length, get_or, take, drop}
-use borrow.Author.Tests.{eqb-true}
 use Rattle.basics.specs.Each.{all}
 use Rattle.basics.proofs.Laws.Test.{both_true}
-use Rattle.refusal.proofs.Laws.Chain.{require-passed, Without, without-passed, without-require, told}
+use Rattle.refusal.proofs.Laws.Chain.{Without, without-passed, without-require}
 use Rattle.refusal.specs.Chain.{require, passed}
 use Rattle.refusal.specs.Number.{number_of, refusal_at}
 use Rattle.refusal.specs.declared.Reason.TheVariants.{Station, Time, Picture, Sound}
-use Rattle.std.specs.Prelude.{Ok}
-use Rattle.refusal.specs.Checked.{Checked, checked_of}
 use Rattle.rules.specs.Rules.{station_rule, time_rule, picture_rule, sound_byte, sound_rule}
-use Rattle.record.specs.Record.{broken, record_refusal}
+use Rattle.record.specs.Record.{broken}
 use Rattle.items.specs.Items.{Row, items, part}
 use Rattle.rules.proofs.Laws.Rules.{sound-part}
-
--- bytes that pass the check are 248
-pub passed-long : (bytes : List ℕ) (a : Checked) → a ≡ checked_of (record_refusal bytes) → a ≡ Ok tt → length bytes ≡ 248
-unfolding record_refusal
-passed-long bytes a e d = eqb-true _ _ (require-passed _ _ _ (told (record_refusal bytes) a (Ok tt) e d)).0
 
 -- ---- the items that have a rule, in the order of their bytes
 

@@ -2,7 +2,7 @@
 -- Assumes nothing.
 use mathlib.Core.Path.{◌≡◌, refl, ap, sym, ◌∙◌}
 use mathlib.Core.Bool.{Bool, true, false, cond, ◌&&◌, ◌||◌}
-use mathlib.Core.List.{List, [], ◌∷◌, ◌++◌, flatten}
+use mathlib.Core.List.{List, [], ◌∷◌, ◌++◌, flatten, map}
 use mathlib.Core.Logic.{◌⊎◌, ⊎_elim, inl, inr}
 use mathlib.Core.Option.{none}
 use Prim.Native.Nat.{ℕ, zero, suc, ◌+◌, ◌*◌, ◌/◌, ◌%◌, ◌^◌, ◌≤◌, ◌<◌}
@@ -15,11 +15,8 @@ use Rattle.refusal.specs.Number.{refusal_at}
 use Rattle.rules.specs.Rules.{decimal, time_byte, same_sent, time_rule, only_bit, low_half, bit_for, picture_rule, picture_clean}
 use Rattle.record.specs.Record.{laid_out, record_of, broken}
 use Rattle.items.specs.Items.{Row, items, part}
-use Rattle.view.specs.declared.TimeWord.TheVariants.{Sent, Unsent}
-use Rattle.view.specs.declared.Milliseconds.TheVariants.{Sent as BothSent}
-use Rattle.view.specs.declared.PictureMode.TheVariants.{Used as APicture}
-use Rattle.view.specs.declared.SoundMode.TheVariants.{Unused as NoSound, Used as ASound}
-use Rattle.view.specs.View.{time_word_of, milliseconds_of, time_of, bit_set, picture_of, sound_of, countdown_of, counter_of, counters_of, countdowns_of, pair_of, quad_of, view_of, packed, time_word_byte, milliseconds_bytes, time_bytes, bit_back, picture_bytes, sound_mode_byte, countdown_byte, counter_byte, counters_bytes, countdowns_bytes, pair_bytes, quad_bytes, bytes_of}
+use Rattle.std.specs.Prelude.{Some, None}
+use Rattle.view.specs.View.{count_of, counts_of, count_byte, time_word_of, milliseconds_of, time_of, bit_set, picture_of, sound_of, countdown_of, counter_of, counters_of, countdowns_of, pair_of, quad_of, view_of, packed, time_word_byte, milliseconds_bytes, time_bytes, bit_back, picture_bytes, sound_mode_byte, countdown_byte, counter_byte, counters_bytes, countdowns_bytes, pair_bytes, quad_bytes, bytes_of}
 use Rattle.refusal.proofs.Laws.Chain.{require-passed}
 use Rattle.record.proofs.Laws.Record.{record-halves}
 use Rattle.basics.proofs.Laws.Test.{both_true, never}
@@ -288,7 +285,7 @@ picture-again w =
     ⊎_elim (λ e. rw e)
     (λ (e : eqb a 0x00 ≡ false). rw (e, e)
     (λ i.
-    APicture
+    Some
     (record {
       format = a % 128;
       transport_progressive = (ap (λ (t : Bool). eqb a 0x85 && t) (is_one one.seven) ∙ for-again (eqb a 0x85) (b / 128 % 2)) i;
@@ -309,29 +306,27 @@ pub sound_back : (b : ℕ) → sound_mode_byte (sound_of b) ≡ b
 unfolding sound_mode_byte sound_of
 sound_back b = ⊎_elim (λ e. rw e (sym (eqb-true b 0 e))) (λ e. rw e (omega arith)) (true-or-false (eqb b 0))
 
+count-back : (b : ℕ) → count_byte (count_of b) ≡ b
+unfolding count_byte count_of
+count-back b = ⊎_elim (λ e. rw e (sym (eqb-true b 0xFF e))) (λ e. rw e) (true-or-false (eqb b 0xFF))
+
 pub countdown-back : (b : ℕ) → countdown_byte (countdown_of b) ≡ b
-unfolding countdown_byte countdown_of
-countdown-back b = ⊎_elim (λ e. rw e (sym (eqb-true b 0xFF e))) (λ e. rw e) (true-or-false (eqb b 0xFF))
+countdown-back b = count-back b
 
 pub counter-back : (b : ℕ) → counter_byte (counter_of b) ≡ b
-unfolding counter_byte counter_of
-counter-back b = ⊎_elim (λ e. rw e (sym (eqb-true b 0xFF e))) (λ e. rw e) (true-or-false (eqb b 0xFF))
+counter-back b = count-back b
+
+-- and four of them in a row
+four-back : (a b c d : ℕ) → map count_byte (counts_of a b c d) ≡ a ∷ b ∷ c ∷ d ∷ []
+four-back a b c d = same-cons (count-back a) (same-cons (count-back b) (same-cons (count-back c) (same-cons (count-back d) refl)))
 
 pub counters-back : (bytes : List ℕ) → counters_bytes (counters_of bytes) ≡ entries 4 33 bytes
 unfolding counters_bytes counters_of
-counters-back bytes =
-    same-cons (counter-back _)
-    (same-cons (counter-back _)
-    (same-cons (counter-back _)
-    (same-cons (counter-back _) refl)))
+counters-back bytes = four-back _ _ _ _
 
 pub countdowns-back : (bytes : List ℕ) → countdowns_bytes (countdowns_of bytes) ≡ entries 4 37 bytes
 unfolding countdowns_bytes countdowns_of
-countdowns-back bytes =
-    same-cons (countdown-back _)
-    (same-cons (countdown-back _)
-    (same-cons (countdown-back _)
-    (same-cons (countdown-back _) refl)))
+countdowns-back bytes = four-back _ _ _ _
 
 -- the first of several bytes
 low_byte : (a m : ℕ) → a < 256 → (a + 256 * m) % 256 ≡ a
@@ -432,18 +427,18 @@ module _ (bytes : List ℕ) (long : length bytes ≡ 248) where
 
 -- ---- worked values
 
-time-value : (time_word_of 0x59 ≡ Sent 59) × (time_word_of 0xFF ≡ Unsent) × (milliseconds_of 0x09 0x87 ≡ BothSent 987)
+time-value : (time_word_of 0x59 ≡ Some 59) × (time_word_of 0xFF ≡ None) × (milliseconds_of 0x09 0x87 ≡ Some 987)
 unfolding time_word_of milliseconds_of decimal
 time-value = (refl, refl, refl)
 
-sound-value : (sound_of 0x91 ≡ ASound (record { mode = 0x11; downmix = 4 })) × (sound_of 0x00 ≡ NoSound)
+sound-value : (sound_of 0x91 ≡ Some (record { mode = 0x11; downmix = 4 })) × (sound_of 0x00 ≡ None)
 unfolding sound_of
 sound-value = (refl, refl)
 
 -- 0x85 reads b7 of W1, and neither b6 of W2 nor b6 of W3
 picture-value :
     picture_of 0x85 0xC3 0xE5 0x41
-    ≡ APicture
+    ≡ Some
     (record {
       format = 5;
       transport_progressive = true;
