@@ -8,54 +8,35 @@ ghost use Rattle.refusal.specs.Checked.{checked_of};
 ghost use Rattle.writing.specs.Writing.{given_refusal};
 ghost use Rattle.writing.specs.Written.{written_of, write_leaves, layout_of, layout_leaves};
 
-use refusal::{Checked, Reason};
-
-// What writing answers.
-#[derive(Clone, Copy)]
-pub enum Written {
-    Done,
-    Refused(refusal::Refusal),
-}
+use refusal::{Reason, Refusal, require};
 
 // Writes the packet of the bytes' record, with an index and with or without correction. A refusal leaves `out` as it was.
-pub fn write_packet(correction: bool, ci: u8, bytes: &[u8], out: &mut [u16]) -> Written
+pub fn write_packet(correction: bool, ci: u8, bytes: &[u8], out: &mut [u16]) -> Result<(), Refusal>
     ensures { (result ≡ written_of ci bytes.now (length out.old)) × (out.new ≡ write_leaves correction ci bytes.now out.old) }
 {
-    let given = given_refusal(ci, bytes);
-    let content = record::record_refusal(bytes);
-    let checked = refusal::next(given, content);
-    match checked {
-        Checked::Refused(why) => return Written::Refused(why),
-        Checked::Passed => {}
-    }
+    check_given(ci, bytes)?;
+    record::record_refusal(bytes)?;
     let mut rec = [0u8; 248];
-    record::write_record(bytes, &mut rec);
+    record::write_record(bytes, &mut rec).unwrap();
     write_layout(correction, ci, &rec, out)
 }
 
 // Writes the packet of the bytes as they stand, neither checked nor cleaned. A refusal leaves `out` as it was.
-pub fn write_layout(correction: bool, ci: u8, bytes: &[u8], out: &mut [u16]) -> Written
+#[tactic(auto, unfolding(crate::specs::Written::layout_of, crate::specs::Written::layout_leaves, crate::specs::Writing::layout_refusal, crate::specs::Writing::given_refusal))]
+pub fn write_layout(correction: bool, ci: u8, bytes: &[u8], out: &mut [u16]) -> Result<(), Refusal>
     ensures { (result ≡ layout_of ci bytes.now (length out.old)) × (out.new ≡ layout_leaves correction ci bytes.now out.old) }
 {
-    let given = given_refusal(ci, bytes);
-    let checked = refusal::then(given, out.len() == 262, Reason::Room, 0);
-    match checked {
-        Checked::Refused(why) => return Written::Refused(why),
-        Checked::Passed => {}
-    }
+    check_given(ci, bytes)?;
+    require(out.len() == 262, refusal::plain(Reason::Room))?;
     parts::fill(correction, ci, bytes, out);
-    Written::Done
+    Ok(())
 }
 
 // Another number of bytes than 248, or an index over 15, is the refusal.
-fn given_refusal(ci: u8, bytes: &[u8]) -> Checked
+#[tactic(auto, unfolding(crate::specs::Writing::given_refusal))]
+fn check_given(ci: u8, bytes: &[u8]) -> Result<(), Refusal>
     ensures { result ≡ checked_of (given_refusal ci bytes.now) }
 {
-    if bytes.len() != 248 {
-        return Checked::Refused(refusal::plain(Reason::Size));
-    }
-    if 15 < ci {
-        return Checked::Refused(refusal::plain(Reason::Index));
-    }
-    Checked::Passed
+    require(bytes.len() == 248, refusal::plain(Reason::Size))?;
+    require(ci <= 15, refusal::plain(Reason::Index))
 }

@@ -23,14 +23,15 @@ fn front(correction: bool, ci: u8, out: &mut [u16])
     requires { (ci ≤ 15) × (length out.old ≡ 7) }
     ensures { out.new ≡ flag ++ kind ++ header_word correction ci ∷ [] }
 {
-    let first = header(correction, ci);
-    out[0] = 0x000;
-    out[1] = 0x3FF;
-    out[2] = 0x3FF;
-    out[3] = 0x25F;
-    out[4] = 0x1FE;
-    out[5] = 0x2FF;
-    out[6] = first;
+    out.copy_from_slice(&[
+        0x000,
+        0x3FF,
+        0x3FF,
+        0x25F,
+        0x1FE,
+        0x2FF,
+        header(correction, ci),
+    ]);
 }
 
 // Fills six words with the parity of the bytes, or with 0x200 where correction is off.
@@ -39,15 +40,9 @@ fn guard(correction: bool, bytes: &[u8], out: &mut [u16])
     ensures { out.new ≡ cond correction (sound_words (parity_of bytes.now)) (replicate 6 0x200) }
 {
     if correction {
-        let parity = rs::parity(bytes);
-        anc::sound_words(&parity, out);
+        anc::sound_words(&rs::parity(bytes), out).unwrap();
     } else {
-        out[0] = 0x200;
-        out[1] = 0x200;
-        out[2] = 0x200;
-        out[3] = 0x200;
-        out[4] = 0x200;
-        out[5] = 0x200;
+        out.fill(0x200);
     }
 }
 
@@ -57,7 +52,7 @@ pub(crate) fn fill(correction: bool, ci: u8, bytes: &[u8], out: &mut [u16])
     ensures { out.new ≡ packet_words correction ci bytes.now }
 {
     front(correction, ci, &mut out[0..7]);
-    anc::sound_words(bytes, &mut out[7..255]);
+    anc::sound_words(bytes, &mut out[7..255]).unwrap();
     guard(correction, bytes, &mut out[255..261]);
     let sum = anc::checksum(&out[3..261]);
     out[261] = sum;

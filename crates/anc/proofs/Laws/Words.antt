@@ -12,7 +12,7 @@ use Rattle.basics.proofs.Laws.Test.{both_true, lt-or-le}
 use Rattle.refusal.specs.Chain.{require, passed}
 use Rattle.refusal.specs.Checked.{Checked, checked_of}
 use Rattle.refusal.specs.declared.Refusal.{Refusal}
-use Rattle.refusal.proofs.Laws.Chain.{passed-refused, check-passed, check-failed}
+use Rattle.refusal.proofs.Laws.Chain.{check-passed, check-failed}
 use Rattle.refusal.specs.Number.{refusal_plain}
 use Rattle.refusal.specs.declared.Reason.TheVariants.{Room}
 use Rattle.std.specs.Prelude.{Ok, Err}
@@ -149,11 +149,6 @@ module _ (new old : List ℕ) where
         let failed = check-failed _ _ w (sym h ∙ e) in
         rw failed.1 (left_alone (λ k. false≢true (sym failed.0 ∙ eq-eqb n (length old) (sym m ∙ k))))
 
-  -- with room for them it is not refused
-  pub never-refused : length new ≡ length old → {a : Checked} {w : Refusal} → a ≡ checked_of (fill_refusal new (length old)) → a ≡ Err w → ⊥
-  unfolding fill_refusal
-  never-refused h {w} e s = passed-refused tt w (sym (rw (eq-eqb (length new) (length old) h) at e) ∙ s)
-
   filled : (out : List ℕ) → out ≡ fill_leaves new old → length new ≡ length old → out ≡ new
   unfolding fill_refusal fill_leaves
   filled out f h = f ∙ rw (eq-eqb (length new) (length old) h)
@@ -164,8 +159,13 @@ low-filled out words old f h = filled (low_bytes words) old out f (low_bytes-len
 pub sound-filled : (out bytes old : List ℕ) → out ≡ fill_leaves (sound_words bytes) old → length bytes ≡ length old → out ≡ sound_words bytes
 sound-filled out bytes old f h = filled (sound_words bytes) old out f (sound_words-length bytes ∙ h)
 
-pub low-never : {a : Checked} {w : Refusal} (words old : List ℕ) → length words ≡ length old → a ≡ checked_of (fill_refusal (low_bytes words) (length old)) → a ≡ Err w → ⊥
-low-never words old h = never-refused (low_bytes words) old (low_bytes-length words ∙ h)
+-- with room for them they are not refused
+room-done : {a : Checked} (new : List ℕ) (n room : ℕ) → length new ≡ n → n ≡ room → a ≡ checked_of (fill_refusal new room) → a ≡ Ok tt
+unfolding fill_refusal
+room-done new n room m h e = e ∙ rw (eq-eqb (length new) room (m ∙ h))
 
-pub sound-never : {a : Checked} {w : Refusal} (bytes old : List ℕ) → length bytes ≡ length old → a ≡ checked_of (fill_refusal (sound_words bytes) (length old)) → a ≡ Err w → ⊥
-sound-never bytes old h = never-refused (sound_words bytes) old (sound_words-length bytes ∙ h)
+pub low-done : {a : Checked} (words : List ℕ) (room : ℕ) → a ≡ checked_of (fill_refusal (low_bytes words) room) → length words ≡ room → a ≡ Ok tt
+low-done words room e h = room-done (low_bytes words) (length words) room (low_bytes-length words) h e
+
+pub sound-done : {a : Checked} (bytes : List ℕ) (room : ℕ) → a ≡ checked_of (fill_refusal (sound_words bytes) room) → length bytes ≡ room → a ≡ Ok tt
+sound-done bytes room e h = room-done (sound_words bytes) (length bytes) room (sound_words-length bytes) h e

@@ -1,9 +1,14 @@
 -- `writing::parts::fill` meets its contract: three parts laid over the buffer, and the checksum of what they are.
 -- Assumes nothing.
+use mathlib.Core.Path.{ap}
 use borrow.Author.Rules.{rules}
-use Rattle.anc.proofs.Laws.Words.{sound-filled}
+use Rattle.std.specs.Prelude.{is_ok}
+use Rattle.anc.proofs.Laws.Words.{sound-filled, sound-done}
 use Rattle.writing.proofs.Laws.Writing.{packet-filled}
 use Rattle.writing.proofs.parts.fill.Goals as goal
+
+pub unwrap-requires : goal.unwrap-requires
+unwrap-requires c = ap is_ok (sound-done c.args.bytes.now _ c.sound_words.ensures.0 (search rules))
 
 pub returns : goal.returns
 returns c = packet-filled c.args.correction c.args.ci c.args.bytes.now c.args.out.now _ _ _ _
