@@ -1,16 +1,15 @@
 -- The steps of a history: how many are kept, the bytes that a step keeps, one step more, and the bytes before a step.
 -- Assumes nothing.
-use Rattle.std.specs.Prelude.{cond, List, [], ◌∷◌, ◌++◌, ℕ, ◌+◌, eqb, ltb, length, take, drop, set, replicate}
+use Rattle.std.specs.Prelude.{Result, cond, List, [], ◌∷◌, ◌++◌, ℕ, ◌+◌, eqb, ltb, length, take, drop, set, replicate}
 use Rattle.std.proofs.Math.Option.{Option}
 use Rattle.refusal.specs.Chain.{require, next, passed}
-use Rattle.refusal.specs.Checked.{checked_of, refusal_in}
+use Rattle.refusal.specs.Checked.{answer_of}
 use Rattle.refusal.specs.Number.{refusal_plain}
 use Rattle.refusal.specs.declared.Reason.TheVariants.{Size}
 use Rattle.refusal.specs.declared.Refusal.{Refusal}
-use Rattle.items.specs.Item.{place_of}
+use Rattle.items.specs.Item.{place_of, place_refusal}
 use Rattle.record.specs.Stored.{item_lent, put_refusal, put_leaves}
 use Rattle.steps.specs.declared.Step.{Step}
-use Rattle.steps.specs.declared.Kept.{Kept}
 
 -- how many steps the history holds, and how many bytes a step has room for
 abbrev pub depth : ℕ
@@ -42,16 +41,17 @@ blank = record { item = 0; old = [] }
 unfoldable pub padded : List ℕ → List ℕ
 padded bytes = bytes ++ drop (length bytes) (replicate step_room 0)
 
--- the bytes that an item has in a record of 248; beside a refusal, zeros
+-- the bytes that an item has in a record of 248
 unfoldable pub step_of : ℕ → List ℕ → Step
 step_of item bytes = record { item = item; old = padded (item_lent item bytes) }
 
 -- 20, 21: an item, of a record of 248 bytes
 unfoldable pub step_refusal : ℕ → List ℕ → Option Refusal
-step_refusal item bytes = next (refusal_in (place_of item).checked) (require (eqb (length bytes) 248) (refusal_plain Size) passed)
+step_refusal item bytes = next (place_refusal item) (require (eqb (length bytes) 248) (refusal_plain Size) passed)
 
-unfoldable pub kept_of : ℕ → List ℕ → Kept
-kept_of item bytes = record { checked = checked_of (step_refusal item bytes); step = step_of item bytes }
+-- the step, or that refusal
+unfoldable pub kept_of : ℕ → List ℕ → Result Step Refusal
+kept_of item bytes = answer_of (step_refusal item bytes) (step_of item bytes)
 
 -- as many bytes of a step as its item has
 abbrev pub old_of : Step → List ℕ

@@ -4,11 +4,12 @@
 
 ghost use Rattle.std.specs.Prelude.{◌≡◌, ◌≤◌, length};
 ghost use Rattle.refusal.specs.Checked.{checked_of};
-ghost use Rattle.steps.specs.Steps.{depth, held_of, kept_of, pushed, count_on, back_refusal, back_from};
+ghost use Rattle.steps.specs.Steps.{depth, step_room, padded, held_of, kept_of, pushed, count_on, back_refusal, back_from};
 
-use refusal::{Checked, Reason, then};
+use refusal::{Reason, Refusal, require};
 
-// One step of the history: the item that was edited and the bytes it had before, with zeros behind them.
+// One step of the history: the item that was edited and the bytes it had before, with zeros behind them. It crosses to C as it lies in memory, so that
+// its bytes have a fixed room.
 #[repr(C)]
 #[derive(Clone, Copy)]
 pub struct Step {
@@ -29,10 +30,7 @@ impl Step {
 pub fn held(count: u8) -> u8
     ensures { (result ≡ held_of count) × (result ≤ depth) }
 {
-    if Step::DEPTH < count as usize {
-        return Step::DEPTH as u8;
-    }
-    count
+    count.min(Step::DEPTH as u8)
 }
 
 // How many steps there are after one more.
@@ -40,37 +38,32 @@ pub fn held(count: u8) -> u8
 pub fn count_on(count: u8) -> u8
     ensures { result ≡ count_on count }
 {
-    if (count as usize) < Step::DEPTH {
-        return count + 1;
+    if usize::from(count) < Step::DEPTH {
+        count + 1
+    } else {
+        Step::DEPTH as u8
     }
-    Step::DEPTH as u8
-}
-
-// What keeping an item's bytes answers: a step, of zeros beside a refusal.
-#[derive(Clone, Copy)]
-pub struct Kept {
-    pub checked: Checked,
-    pub step: Step,
 }
 
 // The bytes that an item has in a record of 248, as a step.
-pub fn step_of(item: u8, bytes: &[u8]) -> Kept
+pub fn step_of(item: u8, bytes: &[u8]) -> Result<Step, Refusal>
     ensures { result ≡ kept_of item bytes.now }
 {
-    let place = items::item_place(item);
-    let known = place.checked;
-    let checked = then(known, bytes.len() == 248, Reason::Size, 0);
-    let part = record::item_part(item, bytes);
-    let mut old = [0u8; Step::ROOM];
-    let mut i = 0;
-    while i < part.len() {
-        old[i] = part[i];
-        i += 1;
-    }
-    Kept {
-        checked,
-        step: Step { item, old },
-    }
+    items::item_place(item)?;
+    require(bytes.len() == 248, refusal::plain(Reason::Size))?;
+    let old = padded(record::item_part(item, bytes));
+    Ok(Step { item, old })
+}
+
+// Bytes, and zeros behind them up to a step's room.
+#[tactic(auto, unfolding(crate::specs::Steps::padded))]
+fn padded(bytes: &[u8]) -> [u8; Step::ROOM]
+    requires { length bytes.now ≤ step_room }
+    ensures { result ≡ padded bytes.now }
+{
+    let mut room = [0u8; Step::ROOM];
+    room[..bytes.len()].copy_from_slice(bytes);
+    room
 }
 
 // The steps with one more behind the first `count`; the oldest goes where there is no room.
@@ -78,28 +71,20 @@ pub fn push(steps: [Step; Step::DEPTH], count: u8, step: Step) -> [Step; Step::D
     ensures { result ≡ pushed steps count step }
 {
     let mut out = steps;
-    let at = count as usize;
+    let at = usize::from(count);
     if at < Step::DEPTH {
         out[at] = step;
-        return out;
+    } else {
+        out[..Step::DEPTH - 1].copy_from_slice(&steps[1..]);
+        out[Step::DEPTH - 1] = step;
     }
-    let mut i: usize = 0;
-    while i < Step::DEPTH - 1 {
-        let next = steps[i + 1];
-        out[i] = next;
-        i += 1;
-    }
-    out[Step::DEPTH - 1] = step;
     out
 }
 
 // Puts the bytes before a step back into a record of 248. A refusal leaves the record as it was.
-pub fn put_back(step: Step, bytes: &mut [u8]) -> Checked
+pub fn put_back(step: Step, bytes: &mut [u8]) -> Result<(), Refusal>
     ensures { (result ≡ checked_of (back_refusal step (length bytes.old))) × (bytes.new ≡ back_from step bytes.old) }
 {
-    let item = step.item;
-    let old = step.old;
-    let place = items::item_place(item);
-    let length = place.length;
-    record::put_item(item, &old[0..length], bytes)
+    let place = items::item_place(step.item)?;
+    record::put_item(step.item, &step.old[..place.length], bytes)
 }

@@ -1,24 +1,27 @@
 -- `steps::put_back` meets its contract: the first bytes of the step, as many as its item has, are put into the item's place.
 -- Assumes nothing.
-use mathlib.Core.Path.{◌≡◌, ap}
-use Prim.Native.Nat.{◌≤◌}
+use mathlib.Core.Path.{ap}
 use native.Mathlib.Omega.{arith}
-use lib.ListN.{length}
 use Rattle.items.specs.declared.ItemPlace.{ItemPlace}
-use Rattle.steps.specs.Steps.{step_room}
+use Rattle.items.proofs.Laws.Item.{place-given}
+use Rattle.record.specs.Stored.{put_leaves}
+use Rattle.record.proofs.Laws.Stored.{put-checks}
+use Rattle.steps.specs.Steps.{back_refusal, back_from}
 use Rattle.steps.proofs.Laws.Parts.{short, back-put}
-use borrow.Author.Rules.{rules}
 use Rattle.steps.proofs.put_back.Goals as goal
 
-pub slice_bounds-put_item-end : goal.slice_bounds-put_item-end
-slice_bounds-put_item-end c =
+pub returns-in_err-place : goal.returns-in_err-place
+unfolding back_refusal back_from put_leaves
+returns-in_err-place c = (grind (arith, put-checks), grind (arith, put-checks))
+
+pub shared_ref_as_front-put_item : goal.shared_ref_as_front-put_item
+shared_ref_as_front-put_item c =
     let s = c.args.step in
-    let e = ap (λ (p : ItemPlace). p.length) c.item_place-place.ensures in
-    let n : length s.old ≡ step_room = search rules in
-    let h : c.item_place-place.result.length ≤ length s.old = omega (arith, short s.item) in
-    h
+    let given = place-given s.item c.in_ok-place.place c.in_ok-place.ensures.value in
+    omega (arith, short s.item, ap (λ (p : ItemPlace). p.length) given.1)
 
 pub returns : goal.returns
 returns c =
     let a = c.args in
-    back-put a.step _ a.bytes.now _ c.item_place-place.ensures _ c.put_item.ensures.0 c.put_item.ensures.1
+    let given = place-given a.step.item c.in_ok-place.place c.in_ok-place.ensures.value in
+    back-put a.step c.in_ok-place.place a.bytes.now _ _ given.1 c.put_item.ensures.0 c.put_item.ensures.1
