@@ -1,11 +1,11 @@
 -- What the private functions of the plain repairer promise. A reader of the public contract may pass over this file.
 -- Assumes nothing.
-use Rattle.std.specs.Prelude.{◌≡◌, Bool, true, false, List, [], ◌∷◌, ◌++◌, map, ℕ, zero, suc, ◌+◌, ◌-◌, ◌<◌, ◌≤◌, length, get_or, set, take, drop}
-use Rattle.basics.specs.Below.{Bytes}
+use Rattle.std.specs.Prelude.{◌≡◌, Bool, true, List, [], ◌∷◌, ◌++◌, map, ℕ, zero, suc, ◌+◌, ◌-◌, ◌<◌, ◌≤◌, length, get_or, set, take, drop, Option, MatchOption}
+use Rattle.basics.specs.Below.{Below, Bytes}
 use Rattle.gf256.specs.Field.{◌⊕◌, pow}
 use Rattle.gf256.specs.PowerSum.{Term, power_sum}
 use Rattle.rs.specs.Polynomial.{value_at, zeros}
-use Rattle.plain.specs.declared.solver.Errors.{Errors}
+use Rattle.plain.specs.declared.solver.Error.{Error}
 
 -- the six sums of a block: its values at the powers 0 to 5 of 2
 abbrev pub Sums : List ℕ → List ℕ → Type 0
@@ -44,55 +44,55 @@ abbrev pub FirstFrom : List ℕ → ℕ → List ℕ → List ℕ → Type 0
 FirstFrom [] low is s = Unit {0}
 FirstFrom (j ∷ js) low is s = (low ≤ j) × ((i : ℕ) → low ≤ i → i < j → NoneFrom (length js) (i + 1) (is ++ (i ∷ [])) s) × FirstFrom js (j + 1) (is ++ (j ∷ [])) s
 
--- the values a, b and c at the places i, j and k have the six sums
-abbrev pub Has : List ℕ → ℕ → ℕ → ℕ → ℕ → ℕ → ℕ → Type 0
-Has s i a j b k c = Explains 6 (terms_at (element i ∷ element j ∷ element k ∷ []) (a ∷ b ∷ c ∷ [])) s
+-- the places of errors, and the values there
+abbrev pub places_of : List Error → List ℕ
+places_of es = map (λ e. e.place) es
 
--- whether the terms have the six sums
-pub record Judges (es : List Term) (s : List ℕ) (r : Bool) : Type 0 where
-  pub sound : r ≡ true → Explains 6 es s
-  pub complete : Explains 6 es s → r ≡ true
+abbrev pub values_of : List Error → List ℕ
+values_of es = map (λ e. e.value) es
+
+-- the errors have the six sums
+abbrev pub Has : List ℕ → List Error → Type 0
+Has s es = Explains 6 (terms_at (map element (places_of es)) (values_of es)) s
+
+-- whether they have
+pub record Judges (s : List ℕ) (es : List Error) (r : Bool) : Type 0 where
+  pub sound : r ≡ true → Has s es
+  pub complete : Has s es → r ≡ true
 
 -- the errors stand at places of the block and have the six sums
-pub record Right (s : List ℕ) (e : Errors) : Type 0 where
-  pub first : e.i < 254
-  pub second : e.j < 254
-  pub third : e.k < 254
-  pub sums : Has s e.i e.a e.j e.b e.k e.c
+pub record Right (s : List ℕ) (es : List Error) : Type 0 where
+  pub below : Below 254 (places_of es)
+  pub sums : Has s es
 
--- three places with a value each, said to be right
-abbrev pub errors_of : ℕ → ℕ → ℕ → ℕ → ℕ → ℕ → Errors
-errors_of i a j b k c = record { explained = true; i = i; a = a; j = j; b = b; k = k; c = c }
-
--- the errors stand at the places is: these are the last ones, and the values before them are 0
-pub record Stands (is : List ℕ) (e : Errors) : Type 0 where
-  pub places : drop (3 - length is) (e.i ∷ e.j ∷ e.k ∷ []) ≡ is
-  pub idle : take (3 - length is) (e.a ∷ e.b ∷ e.c ∷ []) ≡ zeros (3 - length is)
+-- of three errors the last stand at the places is, and the values before them are 0
+pub record Stands (is : List ℕ) (es : List Error) : Type 0 where
+  pub places : drop (3 - length is) (places_of es) ≡ is
+  pub idle : take (3 - length is) (values_of es) ≡ zeros (3 - length is)
 
 -- they stand at n places, the first n to have the sums
-pub record FirstOf (n : ℕ) (s : List ℕ) (e : Errors) : Type 0 where
+pub record FirstOf (n : ℕ) (s : List ℕ) (es : List Error) : Type 0 where
   pub places : List ℕ
   pub size : length places ≡ n
-  pub stands : Stands places e
+  pub stands : Stands places es
   pub first : FirstFrom places 0 [] s
 
 -- and none have them at fewer places
-pub record First (s : List ℕ) (e : Errors) : Type 0 where
+pub record First (s : List ℕ) (es : List Error) : Type 0 where
   pub n : ℕ
   pub within : n ≤ 3
-  pub first : FirstOf n s e
+  pub first : FirstOf n s es
   pub fewer : (m : ℕ) → m < n → NoneFrom m 0 [] s
 
--- errors that are said to be right are, and then the one claim holds; where they are not said to be, the other
-pub record Settles (here nowhere : Type 0) (s : List ℕ) (e : Errors) : Type 0 where
-  pub right : e.explained ≡ true → Right s e
-  pub found : e.explained ≡ true → here
-  pub none : e.explained ≡ false → nowhere
+-- errors that were found are right, and the one claim holds of them; where none were, the other holds
+abbrev pub Settles : (List Error → Type 0) → Type 0 → List ℕ → Option (List Error) → Type 0
+Settles Here nowhere s found = MatchOption found nowhere (λ es. Right s es × Here es)
 
 -- y comes in at place i
 abbrev pub patched : List ℕ → ℕ → ℕ → List ℕ
 patched l i y = set l i (get_or l i 0 ⊕ y)
 
 -- each value comes in at its place
-abbrev pub mended : List ℕ → Errors → List ℕ
-mended l e = patched (patched (patched l e.i e.a) e.j e.b) e.k e.c
+abbrev pub mended : List ℕ → List Error → List ℕ
+mended l [] = l
+mended l (e ∷ es) = mended (patched l e.place e.value) es

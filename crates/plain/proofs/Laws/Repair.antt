@@ -18,8 +18,8 @@ use Rattle.rs.proofs.Laws.Polynomial.{length-⊞, ⊞-bytes, value-⊞, value_se
 use Rattle.rs.proofs.Laws.Distance.{weight, terms, terms-sum, changes-weight, changes-self, changes-set}
 use Rattle.rs.proofs.Laws.Codeword.{codeword-vanishes, vanishing-codeword}
 use Rattle.rs.proofs.Laws.Decode.{Answer, some-answer, none-answer, decode-complete, decode-none}
-use Rattle.plain.specs.Plain.{Sums, element, terms_at, Unexplained, NoneFrom, Right, patched, mended}
-use Rattle.plain.specs.declared.solver.Errors.{Errors}
+use Rattle.plain.specs.Plain.{Sums, element, terms_at, Unexplained, NoneFrom, places_of, values_of, Right, patched, mended}
+use Rattle.plain.specs.declared.solver.Error.{Error}
 
 -- ---- bytes that are changed
 
@@ -28,6 +28,14 @@ abbrev patched_all : List ℕ → List ℕ → List ℕ → List ℕ
 patched_all l [] ys = l
 patched_all l (i ∷ is) [] = l
 patched_all l (i ∷ is) (y ∷ ys) = patched_all (patched l i y) is ys
+
+placed-long : (es : List Error) → length (places_of es) ≡ length es
+placed-long [] = refl
+placed-long (e ∷ es) = ap suc (placed-long es)
+
+mended-all : (l : List ℕ) (es : List Error) → mended l es ≡ patched_all l (places_of es) (values_of es)
+mended-all l [] = refl
+mended-all l (e ∷ es) = mended-all (patched l e.place e.value) es
 
 -- a value that comes in adds its part to each sum
 patched-value : (l : List ℕ) (i y m : ℕ) → length l ≡ 254 → i < 254 → value_at (pow 2 m) (patched l i y) ≡ value_at (pow 2 m) l ⊕ y ⊗ pow (element i) m
@@ -101,18 +109,19 @@ none-there low (suc d ∷ l) is s e none =
 
 module _ (block s : List ℕ) (long : length block ≡ 254) (bytes : Bytes block) (S : Sums block s) where
   -- errors that have the sums lead to the codeword
-  pub found-answer : (e : Errors) (after : List ℕ) → Right s e → Bytes after → after ≡ mended block e → Answer block true after
-  found-answer e after R b t =
-      let is : List ℕ = e.i ∷ e.j ∷ e.k ∷ [] in
-      let ys : List ℕ = e.a ∷ e.b ∷ e.c ∷ [] in
-      let n : length after ≡ 254 = ap length t ∙ all-long block is ys ∙ long in
+  pub found-answer : (es : List Error) (after : List ℕ) → length es ≤ 3 → Right s es → Bytes after → after ≡ mended block es → Answer block true after
+  found-answer es after few R b t =
+      let is : List ℕ = places_of es in
+      let ys : List ℕ = values_of es in
+      let e : after ≡ patched_all block is ys = t ∙ mended-all block es in
+      let n : length after ≡ 254 = ap length e ∙ all-long block is ys ∙ long in
       some-answer block after
       (decode-complete block after
       (vanishing-codeword after n b
       (λ m h.
-      ap (value_at (pow 2 m)) t ∙ all-value block is ys m long (R.first, (R.second, (R.third, tt)))
+      ap (value_at (pow 2 m)) e ∙ all-value block is ys m long R.below
       ∙ ap₂ ◌⊕◌ (sym (S m h)) (sym (R.sums m h)) ∙ ⊕-self _)) (n ∙ sym long)
-      (omega (arith, ap (λ (l : List ℕ). changes l block) t, all-changes block is ys block, changes-self block)))
+      (omega (arith, ap (λ (l : List ℕ). changes l block) e, all-changes block is ys block, changes-self block, placed-long es)))
 
   -- where none have them, no codeword is near
   pub lost-answer : ((n : ℕ) → n ≤ 3 → NoneFrom n 0 [] s) → Answer block false block

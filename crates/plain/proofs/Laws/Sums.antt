@@ -2,11 +2,11 @@
 -- Assumes nothing.
 use mathlib.Core.Path.{◌≡◌, refl, sym, ap, ◌∙◌}
 use mathlib.Core.List.{List}
-use Prim.Native.Nat.{ℕ, ◌+◌, ◌<◌, ◌≤◌}
+use Prim.Native.Nat.{ℕ, ◌+◌, ◌<◌}
 use native.Mathlib.Numerals.{add-one}
 use native.Mathlib.Omega.{arith}
 use lib.ListN.{length, get_or, set, take, length-set}
-use lib.Seq.{take-suc, take_all, get_or-set_same, get_or-set_other}
+use lib.Seq.{take-suc, get_or-set_same, get_or-set_other}
 use Rattle.basics.proofs.Laws.Test.{below_more}
 use Rattle.gf256.specs.Field.{◌⊕◌, ◌⊗◌, pow}
 use Rattle.rs.specs.Polynomial.{value_at}
@@ -14,24 +14,14 @@ use Rattle.rs.proofs.Laws.Polynomial.{value-snoc}
 
 -- ---- the value of a block, by its first i bytes
 
-pub record Valued (x : ℕ) (l : List ℕ) (v i : ℕ) : Type 0 where
-  pub value : v ≡ value_at x (take i l)
-  pub within : i ≤ length l
-
-pub valued-none : (x : ℕ) (l : List ℕ) → Valued x l 0 0
+pub value-none : (x : ℕ) (l : List ℕ) → 0 ≡ value_at x (take 0 l)
 unfolding value_at
-valued-none x l = record { value = refl; within = omega arith }
+value-none x l = refl
 
-module _ (x : ℕ) (l : List ℕ) (v i : ℕ) (H : Valued x l v i) where
-  pub valued-more : (p r : ℕ) → i < length l → get_or l i 0 < 256 → p ≡ v ⊗ x → r ≡ p ⊕ get_or l i 0 → Valued x l r (i + 1)
-  valued-more p r h b e f = record {
-    value = f ∙ ap (λ (q : ℕ). q ⊕ get_or l i 0) (e ∙ ap (λ (q : ℕ). q ⊗ x) H.value) ∙ sym (value-snoc x (take i l) (get_or l i 0) b)
-        ∙ ap (value_at x) (sym (take-suc l i 0 h) ∙ ap (λ (n : ℕ). take n l) (sym (add-one i)));
-    within = omega arith;
-  }
-
-  pub valued-all : length l ≤ i → v ≡ value_at x l
-  valued-all h = H.value ∙ ap (value_at x) (take_all i l h)
+pub value-more : (x : ℕ) (l : List ℕ) (v i : ℕ) → i < length l → get_or l i 0 < 256 → v ≡ value_at x (take i l) → v ⊗ x ⊕ get_or l i 0 ≡ value_at x (take (i + 1) l)
+value-more x l v i h b e =
+    ap (λ (q : ℕ). q ⊗ x ⊕ get_or l i 0) e ∙ sym (value-snoc x (take i l) (get_or l i 0) b)
+    ∙ ap (value_at x) (sym (take-suc l i 0 h) ∙ ap (λ (n : ℕ). take n l) (sym (add-one i)))
 
 -- ---- the six of them, by the first m
 

@@ -1,21 +1,26 @@
 -- A try of given places, and tries in rising order.
 -- Assumes nothing.
-use mathlib.Core.Path.{◌≡◌, refl, sym, ap, ◌∙◌, subst, subst₃}
+use mathlib.Core.Path.{◌≡◌, refl, sym, ap, ◌∙◌, subst}
 use mathlib.Core.Bool.{Bool, true, false}
 use mathlib.Core.List.{List, [], ◌∷◌, ◌++◌, map}
 use Prim.Native.Nat.{ℕ, suc, ◌+◌, ◌<◌, ◌≤◌}
 use native.Mathlib.Nat.{zero-add}
 use native.Mathlib.Omega.{arith}
 use lib.ListN.{length, get_or, length-map}
+use Rattle.std.specs.Prelude.{Option, Some, None}
+use Rattle.std.specs.Bool.{then_some}
+use Rattle.std.specs.Option.{is_some}
+use Rattle.std.proofs.lemmas.Option.{none-some}
+use Rattle.basics.specs.Below.{Below}
 use Rattle.basics.proofs.Laws.Test.{never, below_more}
 use Rattle.basics.proofs.Laws.Parts.{entries, entries_at}
 use Rattle.gf256.specs.Field.{◌⊕◌, pow}
 use Rattle.gf256.specs.PowerSum.{Term, power_sum}
 use Rattle.gf256.proofs.Laws.Sum.{⊕-zero-l}
 use Rattle.gf256.proofs.Laws.Product.{⊗-zero-l}
-use Rattle.plain.specs.Plain.{element, terms_at, Explains, Solves, Unexplained, NoneFrom, FirstFrom, Has, Judges, errors_of, Stands, FirstOf, First, Settles}
+use Rattle.plain.specs.Plain.{element, terms_at, Explains, Solves, Unexplained, NoneFrom, FirstFrom, Has, Judges, places_of, Stands, FirstOf, First, Settles}
 use Rattle.plain.proofs.Laws.Solve.{one-solved}
-use Rattle.plain.specs.declared.solver.Errors.{Errors}
+use Rattle.plain.specs.declared.solver.Error.{Error}
 
 -- ---- one try
 
@@ -35,64 +40,66 @@ only-solved is s ys h S none zs l b E =
 -- ---- what a try settles
 
 -- claims that follow
-pub settles-so : (A B C D : Type 0) (s : List ℕ) (e : Errors) → (A → C) → (B → D) → Settles A B s e → Settles C D s e
-settles-so A B C D s e f g S = record { right = S.right; found = λ q. f (S.found q); none = λ q. g (S.none q) }
+pub settles-so : (A C : List Error → Type 0) (B D : Type 0) (s : List ℕ) (o : Option (List Error)) → ((es : List Error) → A es → C es) → (B → D)
+    → Settles A B s o → Settles C D s o
+settles-so A C B D s None f g S = g S
+settles-so A C B D s (Some es) f g S = (S.0, f es S.1)
 
 -- the test of the six sums settles whether the errors have them
-pub judged-settles : (s : List ℕ) (i a j b k c x y z : ℕ) (r : Bool) → x ≡ element i → y ≡ element j → z ≡ element k → i < 254 → j < 254 → k < 254
-    → Judges (terms_at (x ∷ y ∷ z ∷ []) (a ∷ b ∷ c ∷ [])) s r
-    → (let e : Errors = record { explained = r; i = i; a = a; j = j; b = b; k = k; c = c } in
-    Settles (e ≡ errors_of i a j b k c) (Has s i a j b k c → ⊥) s e)
-judged-settles s i a j b k c x y z r ex ey ez hi hj hk J =
-    let K = subst₃ (λ (u v w : ℕ). Judges (terms_at (u ∷ v ∷ w ∷ []) (a ∷ b ∷ c ∷ [])) s r) ex ey ez J in
-    record {
-      right = λ q. record { first = hi; second = hj; third = hk; sums = K.sound q };
-      found = λ q. ap (λ (t : Bool). let e : Errors = record { explained = t; i = i; a = a; j = j; b = b; k = k; c = c } in e) q;
-      none = λ q E. never (sym (K.complete E) ∙ q);
-    }
+pub judged-settles : (s : List ℕ) (es : List Error) (r : Bool) → Below 254 (places_of es) → Judges s es r
+    → Settles (λ l. l ≡ es) (Has s es → ⊥) s (then_some r es)
+judged-settles s es true h J = (record { below = h; sums = J.sound refl }, refl)
+judged-settles s es false h J = λ E. never (sym (J.complete E))
 
 -- no place, one place, two and three; where fewer than three are tried, errors of 0 stand before them
-module _ (s : List ℕ) (e : Errors) where
+module _ (s : List ℕ) (o : Option (List Error)) where
   -- a try that is wrong leaves the places unexplained
-  tried : (is : List ℕ) (d : Errors) (Wrong : Type 0) → Stands is d → (Wrong → Unexplained is s) → Settles (e ≡ d) Wrong s e → Settles (Stands is e) (Unexplained is s) s e
-  tried is d Wrong S f = settles-so _ _ _ _ s e (λ p. subst (Stands is) (sym p) S) f
+  pub tried : (is : List ℕ) (es : List Error) → Stands is es → ((Has s es → ⊥) → Unexplained is s) → Settles (λ l. l ≡ es) (Has s es → ⊥) s o
+      → Settles (Stands is) (Unexplained is s) s o
+  tried is es S f = settles-so _ _ _ _ s o (λ l p. subst (Stands is) (sym p) S) f
 
-  pub tried-none : (i : ℕ) → Settles (e ≡ errors_of i 0 i 0 i 0) (Has s i 0 i 0 i 0 → ⊥) s e → Settles (Stands [] e) (Unexplained [] s) s e
+  abbrev at : ℕ → ℕ → Error
+  at i y = record { place = i; value = y }
+
+  pub tried-none : (i : ℕ) → (let es : List Error = at i 0 ∷ at i 0 ∷ at i 0 ∷ [] in Settles (λ l. l ≡ es) (Has s es → ⊥) s o) → Settles (Stands []) (Unexplained [] s) s o
   tried-none i =
-      tried [] _ _ (record { places = refl; idle = refl }) (λ none ys l b E. none (zero-term _ _ s (zero-term _ _ s (zero-term (element i) [] s E))))
+      tried [] (at i 0 ∷ at i 0 ∷ at i 0 ∷ []) (record { places = refl; idle = refl }) (λ none ys l b E. none (zero-term (element i) _ s (zero-term (element i) _ s (zero-term (element i) [] s E))))
 
-  pub tried-one : (i : ℕ) → Settles (e ≡ errors_of i 0 i 0 i (get_or s 0 0)) (Has s i 0 i 0 i (get_or s 0 0) → ⊥) s e → Settles (Stands (i ∷ []) e) (Unexplained (i ∷ []) s) s e
+  pub tried-one : (i : ℕ) → (let es : List Error = at i 0 ∷ at i 0 ∷ at i (get_or s 0 0) ∷ [] in Settles (λ l. l ≡ es) (Has s es → ⊥) s o)
+      → Settles (Stands (i ∷ [])) (Unexplained (i ∷ []) s) s o
   tried-one i =
-      tried (i ∷ []) _ _ (record { places = refl; idle = refl })
+      tried (i ∷ []) (at i 0 ∷ at i 0 ∷ at i (get_or s 0 0) ∷ []) (record { places = refl; idle = refl })
       (λ none. only-solved (i ∷ []) s (get_or s 0 0 ∷ []) (omega arith) (one-solved (element i) (get_or s 0 0))
       (λ E. none (zero-term (element i) _ s (zero-term (element i) (terms_at (element i ∷ []) (get_or s 0 0 ∷ [])) s E))))
 
-  pub tried-two : (i j b c : ℕ) → Solves (element i ∷ element j ∷ []) (entries 2 0 s) (b ∷ c ∷ []) → Settles (e ≡ errors_of i 0 i b j c) (Has s i 0 i b j c → ⊥) s e
-      → Settles (Stands (i ∷ j ∷ []) e) (Unexplained (i ∷ j ∷ []) s) s e
+  pub tried-two : (i j b c : ℕ) → Solves (element i ∷ element j ∷ []) (entries 2 0 s) (b ∷ c ∷ [])
+      → (let es : List Error = at i 0 ∷ at i b ∷ at j c ∷ [] in Settles (λ l. l ≡ es) (Has s es → ⊥) s o)
+      → Settles (Stands (i ∷ j ∷ [])) (Unexplained (i ∷ j ∷ []) s) s o
   tried-two i j b c S =
-      tried (i ∷ j ∷ []) _ _ (record { places = refl; idle = refl })
+      tried (i ∷ j ∷ []) (at i 0 ∷ at i b ∷ at j c ∷ []) (record { places = refl; idle = refl })
       (λ none. only-solved (i ∷ j ∷ []) s (b ∷ c ∷ []) (omega arith) S (λ E. none (zero-term (element i) (terms_at (element i ∷ element j ∷ []) (b ∷ c ∷ [])) s E)))
 
   pub tried-three : (i j k a b c : ℕ) → Solves (element i ∷ element j ∷ element k ∷ []) (entries 3 0 s) (a ∷ b ∷ c ∷ [])
-      → Settles (e ≡ errors_of i a j b k c) (Has s i a j b k c → ⊥) s e → Settles (Stands (i ∷ j ∷ k ∷ []) e) (Unexplained (i ∷ j ∷ k ∷ []) s) s e
+      → (let es : List Error = at i a ∷ at j b ∷ at k c ∷ [] in Settles (λ l. l ≡ es) (Has s es → ⊥) s o)
+      → Settles (Stands (i ∷ j ∷ k ∷ [])) (Unexplained (i ∷ j ∷ k ∷ []) s) s o
   tried-three i j k a b c S =
-      tried (i ∷ j ∷ k ∷ []) _ _ (record { places = refl; idle = refl }) (only-solved (i ∷ j ∷ k ∷ []) s (a ∷ b ∷ c ∷ []) (omega arith) S)
+      tried (i ∷ j ∷ k ∷ []) (at i a ∷ at j b ∷ at k c ∷ []) (record { places = refl; idle = refl }) (only-solved (i ∷ j ∷ k ∷ []) s (a ∷ b ∷ c ∷ []) (omega arith) S)
 
 -- ---- tries in rising order
 
 -- the places is, a next place from `low` on and n more after it: where the next one is below i, no errors have the sums; the last try failed
-pub record Sought (n low : ℕ) (is s : List ℕ) (tried : Errors) (i : ℕ) : Type 0 where
+pub record Sought (n low : ℕ) (is s : List ℕ) (tried : Option (List Error)) (i : ℕ) : Type 0 where
   pub from : low ≤ i
   pub within : i ≤ 254
-  pub failed : tried.explained ≡ false
+  pub failed : tried ≡ None
   pub none : (l : ℕ) → l < i → low ≤ l → NoneFrom n (l + 1) (is ++ (l ∷ [])) s
 
 module _ (n low : ℕ) (is s : List ℕ) where
-  pub sought-none : (e : Errors) (i : ℕ) → i ≡ low → i ≤ 254 → e.explained ≡ false → Sought n low is s e i
+  pub sought-none : (e : Option (List Error)) (i : ℕ) → i ≡ low → i ≤ 254 → e ≡ None → Sought n low is s e i
   sought-none e i p h q = record { from = omega arith; within = h; failed = q; none = λ l b a. absurd (omega arith) }
 
-  module _ (e : Errors) (i : ℕ) (S : Sought n low is s e i) where
-    pub sought-more : (d : Errors) → i < 254 → d.explained ≡ false → NoneFrom n (i + 1) (is ++ (i ∷ [])) s → Sought n low is s d (i + 1)
+  module _ (e : Option (List Error)) (i : ℕ) (S : Sought n low is s e i) where
+    pub sought-more : (d : Option (List Error)) → i < 254 → d ≡ None → NoneFrom n (i + 1) (is ++ (i ∷ [])) s → Sought n low is s d (i + 1)
     sought-more d h q none = record {
       from = omega (arith, S.from);
       within = omega arith;
@@ -104,24 +111,35 @@ module _ (n low : ℕ) (is s : List ℕ) where
     sought-all h l a b = S.none l (omega arith) a
 
 -- the next place is where the tries stand
-pub first_more : (low : ℕ) (is s : List ℕ) (e : Errors) (j : ℕ) (js : List ℕ) → Sought (length js) low is s e j → FirstFrom js (j + 1) (is ++ (j ∷ [])) s
+pub first_more : (low : ℕ) (is s : List ℕ) (e : Option (List Error)) (j : ℕ) (js : List ℕ) → Sought (length js) low is s e j → FirstFrom js (j + 1) (is ++ (j ∷ [])) s
     → FirstFrom (j ∷ js) low is s
 first_more low is s e j js S B = (S.from, λ l a b. S.none l b a, B)
 
 -- ---- what the tries settle
 
+-- what the test of a try has told
+pub failed_try : {A : Type 0} (o : Option A) (t : Bool) → t ≡ is_some o → t ≡ false → o ≡ None
+failed_try None t e q = refl
+failed_try (Some x) t e q = never (sym e ∙ q)
+
+pub found_try : {A : Type 0} (o : Option A) (t : Bool) → t ≡ is_some o → t ≡ true → o ≡ None → ⊥
+found_try None t e q z = never (sym q ∙ e)
+found_try (Some x) t e q z = none-some x (sym z)
+
+pub none_there : (A : List Error → Type 0) (B : Type 0) (s : List ℕ) (o : Option (List Error)) → o ≡ None → Settles A B s o → B
+none_there A B s None q S = S
+none_there A B s (Some es) q S = absurd (none-some es (sym q))
+
 -- all have failed
-pub none_found : (A B : Type 0) (s : List ℕ) (e : Errors) → e.explained ≡ false → B → Settles A B s e
-none_found A B s e q none = record { right = λ p. never (sym p ∙ q); found = λ p. never (sym p ∙ q); none = λ p. none }
+pub none_found : (A : List Error → Type 0) (B : Type 0) (s : List ℕ) (o : Option (List Error)) → o ≡ None → B → Settles A B s o
+none_found A B s None q none = none
+none_found A B s (Some es) q none = absurd (none-some es (sym q))
 
--- the last has not
-pub one_found : (A B C D : Type 0) (s : List ℕ) (e : Errors) → e.explained ≡ true → (A → C) → Settles A B s e → Settles C D s e
-one_found A B C D s e q f S = record { right = S.right; found = λ p. f (S.found p); none = λ p. never (sym q ∙ p) }
-
--- and is then the first of its size
-pub first_found : (B D : Type 0) (js s : List ℕ) (e : Errors) → e.explained ≡ true → FirstFrom js 0 [] s → Settles (Stands js e) B s e
-    → Settles (FirstOf (length js) s e) D s e
-first_found B D js s e q b = one_found _ B _ D s e q (λ p. record { places = js; size = refl; stands = p; first = b })
+-- the last has not, and is then the first of its size
+pub first_found : (B D : Type 0) (js s : List ℕ) (o : Option (List Error)) → (o ≡ None → ⊥) → FirstFrom js 0 [] s → Settles (Stands js) B s o
+    → Settles (FirstOf (length js) s) D s o
+first_found B D js s None q b S = absurd (q refl)
+first_found B D js s (Some es) q b S = (S.0, record { places = js; size = refl; stands = S.1; first = b })
 
 -- ---- of no place, one, two and three
 
@@ -137,5 +155,5 @@ module _ (s : List ℕ) where
   fewer-more n = below_more (λ m. NoneFrom m 0 [] s) n
 
   -- the first of its size is the first of all
-  pub first-of-all : (e : Errors) (n : ℕ) → n ≤ 3 → Fewer n → FirstOf n s e → First s e
+  pub first-of-all : (e : List Error) (n : ℕ) → n ≤ 3 → Fewer n → FirstOf n s e → First s e
   first-of-all e n h few f = record { n = n; within = h; first = f; fewer = few }

@@ -1,7 +1,7 @@
 -- `plain::pairs`: `pairs` goes over the first places, `loop-j` over the second. What each has passed was tried without success.
 -- Assumes nothing.
 use mathlib.Core.List.{[], ◌∷◌}
-use Prim.Native.Nat.{◌+◌, ◌-◌}
+use Prim.Native.Nat.{◌+◌}
 use Rattle.plain.proofs.Laws.Try.{Sought}
 use Rattle.plain.proofs.pairs.Given as goal
 
@@ -10,9 +10,3 @@ invariant-loop-j l = Sought 0 (l.i + 1) (l.i ∷ []) l.s l.tried l.j
 
 abbrev pub invariant-pairs : goal.invariant-pairs
 invariant-pairs l = Sought 1 0 [] l.s l.tried l.i
-
-abbrev pub decreases-loop-j : goal.decreases-loop-j
-decreases-loop-j l = 254 - l.j
-
-abbrev pub decreases-pairs : goal.decreases-pairs
-decreases-pairs l = 254 - l.i

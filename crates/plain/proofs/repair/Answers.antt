@@ -5,7 +5,6 @@ use mir.Syntax.{w8}
 use lib.ListN.{get_or}
 use borrow.Author.Rules.{rules}
 use mathlib.Core.Bool.{true, false}
-use borrow.Author.Tests.{not-true, not-false}
 use Rattle.std.proofs.lemmas.Result.{err_from_is_err_and}
 use Rattle.basics.proofs.Laws.Below.{at-below}
 use Rattle.refusal.proofs.Laws.Chain.{told}
@@ -22,14 +21,14 @@ returns-in_err-require c =
     let p = err_from_is_err_and c.from_residual.result c.from_residual.ensures.1 in
     rw (p.1, p.2) (size-refused l _ (told (block_refusal l) _ _ (rw c.plain.ensures at c.require.ensures) c.in_err-require.was))
 
-pub returns-then-not-e : goal.returns-then-not-e
+pub returns-in_default : goal.returns-in_default
 unfolding block_refusal
-returns-then-not-e c =
+returns-in_default c =
     let l = c.args.block.now in
     let long = passes-block l (told (block_refusal l) _ _ (rw c.plain.ensures at c.require.ensures) c.in_ok-require.was) in
-    rw c.plain-then-not-e.ensures
+    rw c.plain-in_default.ensures
     (answered l l false long
-    (lost-answer l _ long (at-below 256 l (λ i. let b : Fits w8 (get_or l i 0) = search rules in b.fits)) c.sums.ensures (c.first_places-e.ensures.none (not-true _ c.if-not-e.true))))
+    (lost-answer l _ long (at-below 256 l (λ i. let b : Fits w8 (get_or l i 0) = search rules in b.fits)) c.sums.ensures c.in_default.ensures))
 
 pub returns : goal.returns
 unfolding block_refusal
@@ -38,5 +37,5 @@ returns c =
     let after = c.mend.new.block in
     let long = passes-block l (told (block_refusal l) _ _ (rw c.plain.ensures at c.require.ensures) c.in_ok-require.was) in
     answered l after true long
-    (found-answer l _ long (at-below 256 l (λ i. let b : Fits w8 (get_or l i 0) = search rules in b.fits)) c.sums.ensures _ after (c.first_places-e.ensures.right (not-false _ c.if-not-e.false))
+    (found-answer l _ long (at-below 256 l (λ i. let b : Fits w8 (get_or l i 0) = search rules in b.fits)) c.sums.ensures c.in-Some.errors after (search rules) c.in-Some.ensures.0
     (at-below 256 after (λ i. (c.type_inv.block i).fits)) c.mend.ensures)

@@ -1,7 +1,8 @@
--- `plain::triples`: `triples` goes over the first places, `loop-j` over the second, `loop-k` over the third. What each has passed was tried without success.
+-- `plain::triples`: `triples` goes over the first places, `loop-j` over the second, `loop-k` over the third. What each has passed was tried
+-- without success.
 -- Assumes nothing.
 use mathlib.Core.List.{[], ◌∷◌}
-use Prim.Native.Nat.{◌+◌, ◌-◌}
+use Prim.Native.Nat.{◌+◌}
 use Rattle.plain.proofs.Laws.Try.{Sought}
 use Rattle.plain.proofs.triples.Given as goal
 
@@ -13,12 +14,3 @@ invariant-loop-j l = Sought 1 (l.i + 1) (l.i ∷ []) l.s l.tried l.j
 
 abbrev pub invariant-triples : goal.invariant-triples
 invariant-triples l = Sought 2 0 [] l.s l.tried l.i
-
-abbrev pub decreases-loop-k : goal.decreases-loop-k
-decreases-loop-k l = 254 - l.k
-
-abbrev pub decreases-loop-j : goal.decreases-loop-j
-decreases-loop-j l = 254 - l.j
-
-abbrev pub decreases-triples : goal.decreases-triples
-decreases-triples l = 254 - l.i

@@ -12,5 +12,5 @@ pub returns : goal.returns
 returns c =
     let y : Fits w8 c.args.y = search rules in
     let z : Fits w8 c.args.z = search rules in
-    two-solved _ _ _ _ y.fits z.fits c.requires.2 _ _
-    (c.divided-c.ensures ∙ ap₂ over c.killed.ensures c.sum.ensures) c.sum-2.ensures
+    two-solved _ _ _ _ y.fits z.fits c.requires _ _
+    (c.quotient-c.ensures ∙ ap₂ over c.killed.ensures c.sum.ensures) c.sum-2.ensures

@@ -1,13 +1,18 @@
 -- `plain::solver::value` meets its contract: a byte at a time.
 -- Assumes nothing.
-use borrow.Author.Rules.{rules}
-use Rattle.plain.proofs.Laws.Sums.{valued-none, valued-more}
+use mathlib.Core.Path.{ap, ◌∙◌}
+use Prim.Native.Nat.{ℕ}
+use native.Mathlib.Omega.{arith}
+use lib.ListN.{get_or}
+use Rattle.gf256.specs.Field.{◌⊕◌}
+use Rattle.plain.proofs.Laws.Sums.{value-none, value-more}
 use Rattle.plain.proofs.solver.value.Goals as goal
 
-pub loop-i-init : goal.loop-i-init
-loop-i-init c = valued-none _ _
+pub loop-byte-init : goal.loop-byte-init
+loop-byte-init c = value-none c.args.x c.args.block.now
 
-pub loop-i-preserved : goal.loop-i-preserved
-loop-i-preserved c =
-    let l = c.loop-i in
-    valued-more _ _ _ _ l.invariant _ _ (search rules) (c.type_inv.block l.i).fits c.times.ensures c.sum-v.ensures
+pub loop-byte-preserved : goal.loop-byte-preserved
+loop-byte-preserved c =
+    let l = c.loop-byte in
+    c.sum-v.ensures ∙ ap (λ (p : ℕ). p ⊕ get_or c.args.block.now l.byte-index 0) c.product.ensures
+    ∙ value-more c.args.x c.args.block.now l.v l.byte-index (omega arith) (c.type_inv.block l.byte-index).fits l.invariant
