@@ -1,74 +1,38 @@
 -- One item by its number: which numbers have a row, whose byte each is, and the checks of an item's bytes.
 -- Assumes nothing.
-use mathlib.Core.Path.{◌≡◌, refl, sym, ap, ◌∙◌, subst}
-use mathlib.Core.Bool.{Bool, true, false, cond}
+use mathlib.Core.Path.{◌≡◌, refl, sym, ap, ◌∙◌}
+use mathlib.Core.Bool.{Bool, cond}
 use mathlib.Core.List.{List}
-use mathlib.Core.Logic.{◌↔◌, ◌⊎◌, inl, inr, ⊎_elim}
+use mathlib.Core.Logic.{◌↔◌, ◌⊎◌, inl, inr}
 use mathlib.Core.Option.{Option, none, some}
 use Prim.Native.Nat.{ℕ, zero, suc, ◌<◌, ◌≤◌}
 use native.Mathlib.Omega.{arith}
-use lib.Dec.{T, eqb, ltb, eqb→eq, ltb→lt}
+use lib.Dec.{T, eqb, eqb→eq}
 use lib.ListN.{length, get_or}
-use borrow.Author.Tests.{ne_eqb}
+use Rattle.std.proofs.lemmas.Bool.Decides.{nat_tests}
 use Rattle.refusal.specs.Chain.{require, next, passed}
 use Rattle.refusal.specs.Number.{refusal_at, refusal_plain}
 use Rattle.refusal.specs.Checked.{answer_of}
 use Rattle.refusal.specs.declared.Refusal.{Refusal}
 use Rattle.refusal.specs.declared.Reason.TheVariants.{Size}
-use Rattle.refusal.proofs.Laws.Chain.{passed-refused}
 use Rattle.std.specs.Prelude.{Ok, Err}
 use Rattle.items.specs.declared.ItemPlace.{ItemPlace}
 use Rattle.items.specs.Items.{Row, items, holders, reserved_byte}
 use Rattle.items.specs.Item.{row_of, refused_in, item_refusal, place_refused_in, place_refusal, place_in, place_of, rule_in, rule_of, reason_in, reason_of}
 use Rattle.rules.specs.Rules.{sound_byte}
 use Rattle.rules.proofs.Laws.Rules.{sound-one}
-use Rattle.basics.proofs.Laws.Test.{below, below_at, lt-or-le}
+use Rattle.basics.proofs.Laws.Test.{below, below_at}
 
 -- ---- the numbers that have a row
 
 pub row-none : (n : ℕ) → 13 < n → row_of n items ≡ none
 unfolding row_of items
-row-none n h =
-    simp (
-      ne_eqb n 1 (λ e. omega arith),
-      ne_eqb n 2 (λ e. omega arith),
-      ne_eqb n 3 (λ e. omega arith),
-      ne_eqb n 4 (λ e. omega arith),
-      ne_eqb n 5 (λ e. omega arith),
-      ne_eqb n 6 (λ e. omega arith),
-      ne_eqb n 7 (λ e. omega arith),
-      ne_eqb n 8 (λ e. omega arith),
-      ne_eqb n 9 (λ e. omega arith),
-      ne_eqb n 10 (λ e. omega arith),
-      ne_eqb n 11 (λ e. omega arith),
-      ne_eqb n 12 (λ e. omega arith),
-      ne_eqb n 13 (λ e. omega arith),
-    )
-
-known : Option Row → Bool
-known none = false
-known (some i) = true
-
-all_known : T (below (λ (k : ℕ). known (row_of (suc k) items)) 13)
-unfolding known row_of items
-all_known = tt
-
-row-known : (n : ℕ) → 0 < n → n ≤ 13 → T (known (row_of n items))
-row-known zero p h = absurd (omega arith)
-row-known (suc k) p h = below_at (λ (k : ℕ). known (row_of (suc k) items)) 13 all_known k (omega arith)
-
-pub row_zero : row_of 0 items ≡ none
-unfolding row_of items
-row_zero = refl
+row-none n h = grind (arith, nat_tests)
 
 -- there is no such item exactly for 0 and from 14 on
 pub no_row : (n : ℕ) → (row_of n items ≡ none) ↔ ((n ≡ 0) ⊎ (13 < n))
-unfolding known
-no_row n = (to, ⊎_elim (λ e. rw e row_zero) (row-none n))
-  where
-    to : row_of n items ≡ none → (n ≡ 0) ⊎ (13 < n)
-    to e =
-        ⊎_elim (λ p. ⊎_elim inr (λ h. absurd (subst (λ (o : Option Row). T (known o)) e (row-known n p h))) (lt-or-le 13 n)) (λ z. inl (omega arith)) (lt-or-le 0 n)
+unfolding row_of items
+no_row n = (λ e. grind (arith, nat_tests), λ h. grind (arith, nat_tests))
 
 -- ---- each byte is one item's, but those of the reserved area, which are none's
 
@@ -87,33 +51,17 @@ one-holder = by-test tt
 
 -- ---- where the items stand
 
-all-within : T (below (λ (k : ℕ). ltb (place_of k).first 256) 14)
-unfolding place_of place_in row_of items
-all-within = tt
-
 pub place-lt : (n : ℕ) → (place_of n).first < 256
-unfolding place_of place_in
-place-lt n =
-    ⊎_elim (λ h. ltb→lt (place_of n).first 256 (below_at (λ (k : ℕ). ltb (place_of k).first 256) 14 all-within n h)) (λ h. rw (row-none n (omega arith)) (omega arith))
-    (lt-or-le n 14)
+unfolding place_of place_in row_of items
+place-lt n = grind (arith, nat_tests)
 
--- the place that is given is that of the item, which there is
-answered : {A : Type 0} (o : Option Refusal) (x y : A) → Ok y ≡ answer_of o x → (o ≡ none) × (y ≡ x)
-answered none x y e = (refl, cc)
-answered (some why) x y e = absurd (passed-refused y why e)
-
+-- the place that is given is that of the item, and where none is given there is no such item
 pub place-given : (n : ℕ) (p : ItemPlace) → Ok p ≡ answer_of (place_refusal n) (place_of n) → (place_refusal n ≡ none) × (p ≡ place_of n)
-place-given n p e = answered (place_refusal n) (place_of n) p e
-
--- and where none is given there is no such item
-missing : (o : Option Row) (why : Refusal) → Err why ≡ answer_of (place_refused_in o) (place_in o) → o ≡ none
-unfolding place_refused_in
-missing none why e = refl
-missing (some i) why e = absurd (passed-refused (place_in (some i)) why (sym e))
+place-given n p e = (grind arith, grind arith)
 
 pub place-missing : (n : ℕ) (why : Refusal) → Err why ≡ answer_of (place_refusal n) (place_of n) → row_of n items ≡ none
-unfolding place_refusal place_of
-place-missing n why e = missing (row_of n items) why e
+unfolding place_refusal place_refused_in
+place-missing n why e = grind arith
 
 -- a sound mode is one byte
 pub sound_at : (n : ℕ) (bytes : List ℕ) → (n ≡ 6) ⊎ (n ≡ 7) → length bytes ≡ (place_of n).length → sound_byte (get_or bytes 0 0) ≡ rule_of n bytes

@@ -42,6 +42,11 @@ abbrev pub Each : (Row → Type 0) → List Row → Type 0
 Each P [] = Unit {0}
 Each P (i ∷ is) = P i × Each P is
 
+-- of a row, and of those behind it
+infixr 5 ◌&◌
+◌&◌ : {A B : Type 0} → A → B → A × B
+p & q = (p, q)
+
 -- the row that has a number is the first one or stands in the rest
 found-by : (P : Row → Type 0) (j i : Row) (t : Bool) (rest : Option Row) → P j → (rest ≡ some i → P i) → cond t (some j) rest ≡ some i → P i
 found-by P j i true rest p f e = subst P (some-injective j i e) p
@@ -114,40 +119,21 @@ module _ (n f : ℕ) (c : T (leb 1 f)) where
 
 all-sit : Each Sits items
 unfolding items
-all-sit = (
-  as-it-is 1 1 tt 8 _ _ tt tt refl,
-  (
-    as-it-is 2 9 tt 9 _ _ tt tt refl,
-    (
-      a-mode 3 18 tt tt tt refl,
-      (
-        a-mode 4 22 tt tt tt refl,
-        (
-          as-it-is 5 26 tt 1 _ _ tt tt refl,
-          (
-            as-it-is 6 27 tt 1 _ _ tt tt refl,
-            (
-              as-it-is 7 28 tt 1 _ _ tt tt refl,
-              (
-                as-it-is 8 29 tt 1 _ _ tt tt refl,
-                (
-                  as-it-is 9 30 tt 4 _ _ tt tt refl,
-                  (
-                    as-it-is 10 34 tt 4 _ _ tt tt refl,
-                    (
-                      as-it-is 11 38 tt 4 _ _ tt tt refl,
-                      (as-it-is 12 42 tt 2 _ _ tt tt refl, (as-it-is 13 108 tt 141 _ _ tt tt refl, tt)),
-                    ),
-                  ),
-                ),
-              ),
-            ),
-          ),
-        ),
-      ),
-    ),
-  ),
-)
+all-sit =
+    as-it-is 1 1 tt 8 _ _ tt tt refl
+    & as-it-is 2 9 tt 9 _ _ tt tt refl
+    & a-mode 3 18 tt tt tt refl
+    & a-mode 4 22 tt tt tt refl
+    & as-it-is 5 26 tt 1 _ _ tt tt refl
+    & as-it-is 6 27 tt 1 _ _ tt tt refl
+    & as-it-is 7 28 tt 1 _ _ tt tt refl
+    & as-it-is 8 29 tt 1 _ _ tt tt refl
+    & as-it-is 9 30 tt 4 _ _ tt tt refl
+    & as-it-is 10 34 tt 4 _ _ tt tt refl
+    & as-it-is 11 38 tt 4 _ _ tt tt refl
+    & as-it-is 12 42 tt 2 _ _ tt tt refl
+    & as-it-is 13 108 tt 141 _ _ tt tt refl
+    & tt
 
 number_by : (n : ℕ) (j i : Row) (t : Bool) (rest : Option Row) → eqb n j.number ≡ t → (rest ≡ some i → n ≡ i.number) → cond t (some j) rest ≡ some i → n ≡ i.number
 number_by n j i true rest p f e = eqb-true n j.number p ∙ ap (λ (k : Row). k.number) (some-injective j i e)
@@ -301,7 +287,7 @@ module _ (r : List ℕ) (h : length r ≡ 248) where
   own-items e =
       let current : take 4 (drop 17 r) ≡ picture_clean (take 4 (drop 17 r)) = ap (λ (l : List ℕ). take 4 (drop 17 l)) (sym e) ∙ record-current r h in
       let next : take 4 (drop 21 r) ≡ picture_clean (take 4 (drop 21 r)) = ap (λ (l : List ℕ). take 4 (drop 21 l)) (sym e) ∙ record-next r h in
-      (refl, (refl, (sym current, (sym next, (refl, (refl, (refl, (refl, (refl, (refl, (refl, (refl, (refl, tt)))))))))))))
+      refl & refl & sym current & sym next & refl & refl & refl & refl & refl & refl & refl & refl & refl & tt
 
   own-reserved : record_of r ≡ r → reserved_area r ≡ replicate 64 0
   own-reserved e = ap reserved_area (sym e) ∙ record-reserved r h

@@ -1,38 +1,26 @@
 -- The view loses nothing: what passes the rules can be worked out from its view and its private area.
 -- Assumes nothing.
 use mathlib.Core.Path.{◌≡◌, refl, ap, sym, ◌∙◌}
-use mathlib.Core.Bool.{Bool, true, false, cond, ◌&&◌, ◌||◌}
+use mathlib.Core.Bool.{Bool, true, false, cond, ◌&&◌}
 use mathlib.Core.List.{List, [], ◌∷◌, ◌++◌, flatten, map}
-use mathlib.Core.Logic.{◌⊎◌, ⊎_elim, inl, inr}
+use mathlib.Core.Logic.{◌⊎◌, ⊎_elim}
 use mathlib.Core.Option.{none}
-use Prim.Native.Nat.{ℕ, zero, suc, ◌+◌, ◌*◌, ◌/◌, ◌%◌, ◌^◌, ◌≤◌, ◌<◌}
+use Prim.Native.Nat.{ℕ, ◌+◌, ◌*◌, ◌/◌, ◌%◌, ◌^◌, ◌≤◌, ◌<◌}
 use native.Mathlib.Nat.{mod-lt}
 use native.Mathlib.Omega.{arith}
-use lib.Dec.{eqb, leb}
+use lib.Dec.{eqb}
 use lib.ListN.{length, take, drop, get_or, replicate}
-use borrow.Author.Tests.{eqb-true, leb-true, not-true}
-use Rattle.refusal.specs.Number.{refusal_at}
+use Rattle.std.proofs.lemmas.Bool.Decides.{nat_tests}
+use Rattle.std.proofs.lemmas.Bool.{cases_Bool}
 use Rattle.rules.specs.Rules.{decimal, time_byte, same_sent, time_rule, only_bit, low_half, bit_for, picture_rule, picture_clean}
 use Rattle.record.specs.Record.{laid_out, record_of, broken}
 use Rattle.items.specs.Items.{Row, items, part}
 use Rattle.std.specs.Prelude.{Some, None}
 use Rattle.view.specs.View.{count_of, counts_of, count_byte, time_word_of, milliseconds_of, time_of, bit_set, picture_of, sound_of, countdown_of, counter_of, counters_of, countdowns_of, pair_of, quad_of, view_of, packed, time_word_byte, milliseconds_bytes, time_bytes, bit_back, picture_bytes, sound_mode_byte, countdown_byte, counter_byte, counters_bytes, countdowns_bytes, pair_bytes, quad_bytes, bytes_of}
-use Rattle.refusal.proofs.Laws.Chain.{require-passed}
 use Rattle.record.proofs.Laws.Record.{record-halves}
-use Rattle.basics.proofs.Laws.Test.{both_true, never}
 use Rattle.basics.proofs.Laws.Parts.{entries, part-entries, same-cons}
 
--- ---- cases, and two lists that are joined
-
--- one of two tests passes: the first, or else the second
-either_true : (a b : Bool) → (a || b) ≡ true → (a ≡ true) ⊎ ((a ≡ false) × (b ≡ true))
-either_true true b e = inl refl
-either_true false b e = inr (refl, e)
-
-true-or-false : (t : Bool) → (t ≡ true) ⊎ (t ≡ false)
-true-or-false true = inl refl
-true-or-false false = inr refl
-
+-- two lists that are joined
 same-join : {a b l m : List ℕ} → a ≡ b → l ≡ m → a ++ l ≡ b ++ m
 same-join e f = λ i. e i ++ f i
 
@@ -47,126 +35,37 @@ Keeps (i ∷ is) bytes = (i.rule (part i bytes) ≡ true) × Keeps is bytes
 pub none-broken : (is : List Row) (bytes : List ℕ) → broken is bytes ≡ none → Keeps is bytes
 unfolding broken
 none-broken [] bytes e = tt
-none-broken (i ∷ is) bytes e =
-    let both = require-passed (i.rule (part i bytes)) (refusal_at i.reason i.first) (broken is bytes) e in
-    (both.0, none-broken is bytes both.1)
+none-broken (i ∷ is) bytes e = (grind arith, none-broken is bytes (grind arith))
 
 -- ---- time
 
--- what a byte of the time keeps where it is sent
-record Digits (high b : ℕ) : Type 0 where
-  tens : b / 16 ≤ 9
-  units : b % 16 ≤ 9
-  small : decimal b ≤ high
-
-digits : (low high b : ℕ) → (leb (b / 16) 9 && leb (b % 16) 9 && (leb low (decimal b) && leb (decimal b) high)) ≡ true → Digits high b
-digits low high b e =
-    let parts = both_true (leb (b / 16) 9 && leb (b % 16) 9) (leb low (decimal b) && leb (decimal b) high) e in
-    let two = both_true (leb (b / 16) 9) (leb (b % 16) 9) parts.0 in
-    let range = both_true (leb low (decimal b)) (leb (decimal b) high) parts.1 in
-    record { tens = leb-true (b / 16) 9 two.0; units = leb-true (b % 16) 9 two.1; small = leb-true (decimal b) high range.1 }
-
--- 0xFF, or two digits
-time-cases : (low high b : ℕ) → time_byte low high b ≡ true → (eqb b 0xFF ≡ true) ⊎ ((eqb b 0xFF ≡ false) × Digits high b)
-unfolding time_byte
-time-cases low high b e = ⊎_elim inl (λ w. inr (w.0, digits low high b w.1)) (either_true (eqb b 0xFF) _ e)
-
--- a packed decimal byte, from the number that it stands for
-packed-decimal : (b : ℕ) → b / 16 ≤ 9 → b % 16 ≤ 9 → packed (decimal b) ≡ b
-unfolding packed decimal
-packed-decimal b h k = omega arith
-
 pub time-word-back : (low high b : ℕ) → time_byte low high b ≡ true → time_word_byte (time_word_of b) ≡ b
-unfolding time_word_byte time_word_of
-time-word-back low high b e =
-    ⊎_elim
-    (λ w. rw w (sym (eqb-true _ _ w)))
-    (λ w. rw w.0 (packed-decimal b w.1.tens w.1.units))
-    (time-cases low high b e)
-
--- the number of milliseconds in its two parts
-hundreds-parts : (h l : ℕ) → l ≤ 99 → ((h * 100 + l) / 100 ≡ h) × ((h * 100 + l) % 100 ≡ l)
-hundreds-parts h l k = (omega arith, omega arith)
-
--- neither byte is sent, or both are
-both-cases : (h l : ℕ) → time_byte 0 9 h ≡ true → time_byte 0 99 l ≡ true → same_sent (eqb h 0xFF) (eqb l 0xFF) ≡ true
-    → ((eqb h 0xFF ≡ true) × (l ≡ 0xFF)) ⊎ ((eqb h 0xFF ≡ false) × Digits 9 h × Digits 99 l)
-both-cases h l eh el same =
-    ⊎_elim
-    (λ w. inl (w, eqb-true l 0xFF (rw w at same)))
-    (λ w. inr (w.0, w.1, ⊎_elim (λ u. never (sym u ∙ not-true _ (rw w.0 at same))) (λ u. u.1) (time-cases 0 99 l el)))
-    (time-cases 0 9 h eh)
+unfolding time_word_byte time_word_of time_byte packed decimal
+time-word-back low high b e = grind (arith, nat_tests)
 
 pub milliseconds-back : (h l : ℕ) → time_byte 0 9 h ≡ true → time_byte 0 99 l ≡ true → same_sent (eqb h 0xFF) (eqb l 0xFF) ≡ true
     → milliseconds_bytes (milliseconds_of h l) ≡ h ∷ l ∷ []
-unfolding milliseconds_bytes milliseconds_of
-milliseconds-back h l eh el same =
-    ⊎_elim
-    (λ w. rw (w.0, w.1, eqb-true h 0xFF w.0))
-    (λ w.
-    let parts = hundreds-parts (decimal h) (decimal l) w.2.small in
-    rw (w.0, parts.0, parts.1, packed-decimal h w.1.tens w.1.units, packed-decimal l w.2.tens w.2.units))
-    (both-cases h l eh el same)
-
--- the rule of the time in its parts
-record Timely (w : List ℕ) : Type 0 where
-  year : time_byte 0 99 (get_or w 0 0) ≡ true
-  month : time_byte 1 12 (get_or w 1 0) ≡ true
-  day : time_byte 1 31 (get_or w 2 0) ≡ true
-  weekday : time_byte 0 6 (get_or w 3 0) ≡ true
-  hour : time_byte 0 23 (get_or w 4 0) ≡ true
-  minute : time_byte 0 59 (get_or w 5 0) ≡ true
-  second : time_byte 0 59 (get_or w 6 0) ≡ true
-  high : time_byte 0 9 (get_or w 7 0) ≡ true
-  low : time_byte 0 99 (get_or w 8 0) ≡ true
-  same : same_sent (eqb (get_or w 7 0) 0xFF) (eqb (get_or w 8 0) 0xFF) ≡ true
-
-timely : (w : List ℕ) → time_rule w ≡ true → Timely w
-unfolding time_rule
-timely w e =
-    let e9 = both_true _ _ e in
-    let e8 = both_true _ _ e9.0 in
-    let e7 = both_true _ _ e8.0 in
-    let e6 = both_true _ _ e7.0 in
-    let e5 = both_true _ _ e6.0 in
-    let e4 = both_true _ _ e5.0 in
-    let e3 = both_true _ _ e4.0 in
-    let e2 = both_true _ _ e3.0 in
-    let e1 = both_true _ _ e2.0 in
-    record {
-      year = e1.0;
-      month = e1.1;
-      day = e2.1;
-      weekday = e3.1;
-      hour = e4.1;
-      minute = e5.1;
-      second = e6.1;
-      high = e7.1;
-      low = e8.1;
-      same = e9.1;
-    }
+unfolding milliseconds_bytes milliseconds_of time_byte packed decimal
+milliseconds-back h l eh el same = grind (arith, nat_tests)
 
 -- the nine bytes of the time
 pub time-back : (bytes : List ℕ) → time_rule (entries 9 8 bytes) ≡ true → time_bytes (time_of bytes) ≡ entries 9 8 bytes
-unfolding time_bytes time_of
+unfolding time_bytes time_of time_rule
 time-back bytes e =
-    let t : Timely (entries 9 8 bytes) = timely _ e in
-    same-cons (time-word-back 0 99 _ t.year)
-    (same-cons (time-word-back 1 12 _ t.month)
-    (same-cons (time-word-back 1 31 _ t.day)
-    (same-cons (time-word-back 0 6 _ t.weekday)
-    (same-cons (time-word-back 0 23 _ t.hour)
-    (same-cons (time-word-back 0 59 _ t.minute)
-    (same-cons (time-word-back 0 59 _ t.second)
-    (milliseconds-back _ _ t.high t.low t.same)))))))
+    same-cons (time-word-back 0 99 _ (grind arith))
+    (same-cons (time-word-back 1 12 _ (grind arith))
+    (same-cons (time-word-back 1 31 _ (grind arith))
+    (same-cons (time-word-back 0 6 _ (grind arith))
+    (same-cons (time-word-back 0 23 _ (grind arith))
+    (same-cons (time-word-back 0 59 _ (grind arith))
+    (same-cons (time-word-back 0 59 _ (grind arith))
+    (milliseconds-back _ _ (grind arith) (grind arith) (grind arith))))))))
 
 -- ---- picture
 
 -- a binary digit, tested and put back
 digit-back : (d k : ℕ) → d < 2 → cond (eqb d 1) k 0 ≡ d * k
-digit-back zero k h = omega arith
-digit-back (suc zero) k h = omega arith
-digit-back (suc (suc d)) k h = absurd (omega arith)
+digit-back d k h = grind (arith, nat_tests)
 
 bit-back : (i b : ℕ) → bit_back i (bit_set i b) ≡ only_bit i b
 unfolding only_bit
@@ -175,22 +74,13 @@ bit-back i b = digit-back (b / 2 ^ i % 2) (2 ^ i) (mod-lt (b / 2 ^ i) (omega ari
 -- a bit that is read for one W0
 bit-for-back : (v w i b : ℕ) → bit_back i (eqb w v && bit_set i b) ≡ bit_for v w i b
 unfolding bit_for
-bit-for-back v w i b = ⊎_elim (λ e. rw e (bit-back i b)) (λ e. rw e) (true-or-false (eqb w v))
-
--- a format with 0x80 put back
-format_back : (n : ℕ) → (leb 0x81 n && leb n 0x85) ≡ true → 0x80 + n % 128 ≡ n
-format_back n h =
-    let ends = both_true (leb 0x81 n) (leb n 0x85) h in
-    omega (arith, leb-true 0x81 n ends.0, leb-true n 0x85 ends.1)
+bit-for-back v w i b = grind (arith, nat_tests, bit-back)
 
 -- W0 is 0x00, or 0x80 and a format
 picture-cases : (w : List ℕ) → picture_rule w ≡ true
     → (eqb (get_or w 0 0) 0x00 ≡ true) ⊎ ((eqb (get_or w 0 0) 0x00 ≡ false) × (0x80 + get_or w 0 0 % 128 ≡ get_or w 0 0))
 unfolding picture_rule
-picture-cases w e =
-    ⊎_elim inl
-    (λ u. inr (u.0, format_back (get_or w 0 0) (both_true _ _ (both_true _ _ u.1).0).0))
-    (either_true (eqb (get_or w 0 0) 0x00) _ e)
+picture-cases w e = grind (arith, nat_tests)
 
 -- W0 to W3 come back cleaned
 pub picture-back : (a b c d : ℕ) → picture_rule (a ∷ b ∷ c ∷ d ∷ []) ≡ true
@@ -215,17 +105,15 @@ digit_for v w i b = cond (eqb w v) (b / 2 ^ i % 2) 0
 -- in its place it is the bit that is kept
 digit-for : (v w i b : ℕ) → bit_for v w i b ≡ digit_for v w i b * 2 ^ i
 unfolding bit_for only_bit
-digit-for v w i b = ⊎_elim (λ e. rw e) (λ e. rw e (omega arith)) (true-or-false (eqb w v))
+digit-for v w i b = grind (arith, nat_tests)
 
 -- it is 0 or 1
 digit_lt : (t : Bool) (n : ℕ) → cond t (n % 2) 0 < 2
-digit_lt true n = omega arith
-digit_lt false n = omega arith
+digit_lt t n = grind arith
 
 -- tested once more, it is what it was
 for-again : (t : Bool) (n : ℕ) → (t && eqb (cond t n 0) 1) ≡ (t && eqb n 1)
-for-again true n = refl
-for-again false n = refl
+for-again t n = grind (arith, nat_tests)
 
 -- three bits and the low half, told apart
 record Told (n p q s r : ℕ) : Type 0 where
@@ -268,7 +156,7 @@ is_one e = ap (λ (k : ℕ). eqb k 1) e
 -- cleaned, there are still four bytes
 clean-entries : (w : List ℕ) → picture_clean w ≡ entries 4 0 (picture_clean w)
 unfolding picture_clean
-clean-entries w = ⊎_elim (λ e. rw e) (λ e. rw e) (true-or-false (eqb (get_or w 0 0) 0x00))
+clean-entries w = grind (arith, nat_tests)
 
 -- the view is that of the bytes before
 picture-again : (w : List ℕ) → let k : List ℕ = picture_clean w in
@@ -298,17 +186,17 @@ picture-again w =
       second_link = (ap (λ (t : Bool). eqb a 0x82 && t) (is_one three.six) ∙ for-again (eqb a 0x82) (d / 64 % 2)) i;
       ten_bits = is_one (low_bit _ d three.low) i;
     })))
-    (true-or-false (eqb a 0x00))
+    (cases_Bool (eqb a 0x00))
 
 -- ---- the other items
 
 pub sound_back : (b : ℕ) → sound_mode_byte (sound_of b) ≡ b
 unfolding sound_mode_byte sound_of
-sound_back b = ⊎_elim (λ e. rw e (sym (eqb-true b 0 e))) (λ e. rw e (omega arith)) (true-or-false (eqb b 0))
+sound_back b = grind (arith, nat_tests)
 
 count-back : (b : ℕ) → count_byte (count_of b) ≡ b
 unfolding count_byte count_of
-count-back b = ⊎_elim (λ e. rw e (sym (eqb-true b 0xFF e))) (λ e. rw e) (true-or-false (eqb b 0xFF))
+count-back b = grind (arith, nat_tests)
 
 pub countdown-back : (b : ℕ) → countdown_byte (countdown_of b) ≡ b
 countdown-back b = count-back b
@@ -334,17 +222,11 @@ low_byte a m h = omega arith
 
 pub pair-back : (a b : ℕ) → a < 256 → pair_bytes (pair_of a b) ≡ a ∷ b ∷ []
 unfolding pair_bytes
-pair-back a b ha = same-cons (low_byte a b ha) (same-cons (omega arith) refl)
+pair-back a b ha = grind arith
 
 pub quad-back : (a b c d : ℕ) → a < 256 → b < 256 → c < 256 → quad_bytes (quad_of a b c d) ≡ a ∷ b ∷ c ∷ d ∷ []
 unfolding quad_bytes
-quad-back a b c d ha hb hc =
-    let n : ℕ = quad_of a b c d in
-    let past_one : n / 256 ≡ b + 256 * (c + 256 * d) = omega arith in
-    let past_two : n / 65536 ≡ c + 256 * d = omega arith in
-    let low : (m : ℕ) → ℕ = λ m. m % 256 in
-    same-cons (omega arith)
-    (same-cons (ap low past_one ∙ low_byte b (c + 256 * d) hb) (same-cons (ap low past_two ∙ low_byte c d hc) (same-cons (omega arith) refl)))
+quad-back a b c d ha hb hc = grind arith
 
 -- ---- the whole
 
