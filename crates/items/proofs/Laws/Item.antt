@@ -1,10 +1,10 @@
 -- One item by its number: which numbers have a row, whose byte each is, and the checks of an item's bytes.
 -- Assumes nothing.
-use mathlib.Core.Path.{◌≡◌, refl, sym, ap, ◌∙◌}
+use mathlib.Core.Path.{◌≡◌}
 use mathlib.Core.Bool.{Bool, cond}
 use mathlib.Core.List.{List}
-use mathlib.Core.Logic.{◌↔◌, ◌⊎◌, inl, inr}
-use mathlib.Core.Option.{Option, none, some}
+use mathlib.Core.Logic.{◌↔◌, ◌⊎◌}
+use mathlib.Core.Option.{none}
 use Prim.Native.Nat.{ℕ, zero, suc, ◌<◌, ◌≤◌}
 use native.Mathlib.Omega.{arith}
 use lib.Dec.{T, eqb, eqb→eq}
@@ -17,7 +17,7 @@ use Rattle.refusal.specs.declared.Refusal.{Refusal}
 use Rattle.refusal.specs.declared.Reason.TheVariants.{Size}
 use Rattle.std.specs.Prelude.{Ok, Err}
 use Rattle.items.specs.declared.ItemPlace.{ItemPlace}
-use Rattle.items.specs.Items.{Row, items, holders, reserved_byte}
+use Rattle.items.specs.Items.{items, holders, reserved_byte}
 use Rattle.items.specs.Item.{row_of, refused_in, item_refusal, place_refused_in, place_refusal, place_in, place_of, rule_in, rule_of, reason_in, reason_of}
 use Rattle.rules.specs.Rules.{sound_byte}
 use Rattle.rules.proofs.Laws.Rules.{sound-one}
@@ -66,21 +66,14 @@ place-missing n why e = grind arith
 -- a sound mode is one byte
 pub sound_at : (n : ℕ) (bytes : List ℕ) → (n ≡ 6) ⊎ (n ≡ 7) → length bytes ≡ (place_of n).length → sound_byte (get_or bytes 0 0) ≡ rule_of n bytes
 unfolding rule_of rule_in row_of items place_of place_in
-sound_at n bytes (inl e) h = rw e (sym (sound-one bytes (h ∙ ap (λ (m : ℕ). (place_of m).length) e)))
-sound_at n bytes (inr e) h = rw e (sym (sound-one bytes (h ∙ ap (λ (m : ℕ). (place_of m).length) e)))
+sound_at n bytes e h = grind (arith, nat_tests, sound-one bytes)
 
 -- ---- the checks of an item's bytes
 
 -- those of its place, its length and its rule
-checks_in : (bytes : List ℕ) (o : Option Row)
-    → refused_in bytes o ≡ next (place_refused_in o) (require (eqb (length bytes) (place_in o).length) (refusal_plain Size) (require (rule_in bytes o) (refusal_at (reason_in o) (place_in o).first) passed))
-unfolding refused_in place_refused_in place_in rule_in reason_in
-checks_in bytes none = refl
-checks_in bytes (some i) = refl
-
 pub item-checks : (n : ℕ) (bytes : List ℕ)
     → item_refusal n bytes ≡ next (place_refusal n) (require (eqb (length bytes) (place_of n).length) (refusal_plain Size) (require (rule_of n bytes) (refusal_at (reason_of n) (place_of n).first) passed))
-unfolding item_refusal place_refusal place_of rule_of reason_of
-item-checks n bytes = checks_in bytes (row_of n items)
+unfolding item_refusal refused_in place_refusal place_refused_in place_of place_in rule_of rule_in reason_of reason_in
+item-checks n bytes = grind arith
 
 pub ruleset checks = (item-checks, place-lt)

@@ -1,6 +1,6 @@
 -- The checks of 248 bytes, one after the other, and which numbers they do not refuse with.
 -- Assumes nothing.
-use mathlib.Core.Path.{◌≡◌, refl}
+use mathlib.Core.Path.{◌≡◌}
 use mathlib.Core.Bool.{Bool, true, false}
 use mathlib.Core.List.{List, [], ◌∷◌, map}
 use Prim.Native.Nat.{ℕ}
@@ -13,22 +13,12 @@ use Rattle.refusal.proofs.Laws.Chain.{Without, without-passed, without-require}
 use Rattle.refusal.specs.Chain.{require, passed}
 use Rattle.refusal.specs.Number.{number_of, refusal_at}
 use Rattle.refusal.specs.declared.Reason.TheVariants.{Station, Time, Picture, Sound}
-use Rattle.rules.specs.Rules.{station_rule, time_rule, picture_rule, sound_byte, sound_rule}
+use Rattle.rules.specs.Rules.{station_rule, time_rule, picture_rule, sound_byte}
 use Rattle.record.specs.Record.{broken}
 use Rattle.items.specs.Items.{Row, items, part}
 use Rattle.rules.proofs.Laws.Rules.{sound-part}
 
 -- ---- the items that have a rule, in the order of their bytes
-
-pub broken-items : (bytes : List ℕ) → broken items bytes ≡
-    require (station_rule (take 8 bytes)) (refusal_at Station 1)
-    (require (time_rule (take 9 (drop 8 bytes))) (refusal_at Time 9)
-    (require (picture_rule (take 4 (drop 17 bytes))) (refusal_at Picture 18)
-    (require (picture_rule (take 4 (drop 21 bytes))) (refusal_at Picture 22)
-    (require (sound_rule (take 1 (drop 26 bytes))) (refusal_at Sound 27)
-    (require (sound_rule (take 1 (drop 27 bytes))) (refusal_at Sound 28) passed)))))
-unfolding broken items part
-broken-items bytes = refl
 
 pub six_checks : (bytes : List ℕ) → length bytes ≡ 248 → broken items bytes ≡
     require (station_rule (take 8 bytes)) (refusal_at Station 1)
@@ -37,7 +27,8 @@ pub six_checks : (bytes : List ℕ) → length bytes ≡ 248 → broken items by
     (require (picture_rule (take 4 (drop 21 bytes))) (refusal_at Picture 22)
     (require (sound_byte (get_or bytes 26 0)) (refusal_at Sound 27)
     (require (sound_byte (get_or bytes 27 0)) (refusal_at Sound 28) passed)))))
-six_checks bytes h = rw (broken-items, sound-part bytes 26 (omega arith), sound-part bytes 27 (omega arith))
+unfolding broken items part
+six_checks bytes h = rw (sound-part bytes 26 (omega arith), sound-part bytes 27 (omega arith))
 
 -- ---- a number that they do not refuse with
 

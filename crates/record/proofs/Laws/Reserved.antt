@@ -12,6 +12,7 @@ use native.Mathlib.Omega.{arith}
 use lib.Dec.{eqb}
 use lib.ListN.{length, get_or, drop, replicate, get_or-replicate, get_or-eq_default}
 use borrow.Author.Tests.{eqb-true, eqb-false, eq-eqb, ne_eqb, not-true}
+use Rattle.std.proofs.lemmas.Bool.Decides.{nat_tests}
 use Rattle.basics.specs.Each.{all}
 use Rattle.basics.proofs.Laws.Test.{lt-or-le}
 use Rattle.basics.proofs.Laws.Parts.{run_length, take-most, run_at, same-cons}
@@ -20,7 +21,7 @@ use Rattle.refusal.specs.Run.{first_from, FirstRefused}
 use Rattle.refusal.specs.Number.{number_of, refusal_at, refusal_plain}
 use Rattle.refusal.specs.declared.Reason.TheVariants.{ReservedArea, Size}
 use Rattle.refusal.specs.declared.Refusal.{Refusal}
-use Rattle.refusal.proofs.Laws.Chain.{require-passed, next-passed, require-behind, next-gives, other-number, passed-other, Without, without-passed, without-require, without-next, never-gives}
+use Rattle.refusal.proofs.Laws.Chain.{require-passed, next-passed, require-behind, next-gives, other-number, Without, without-passed, without-require, without-next, never-gives}
 use Rattle.refusal.proofs.Laws.Run.{first-exactly, first-without}
 use Rattle.items.specs.Items.{items}
 use Rattle.record.specs.Reserved.{reserved_area, used_at, reserved_refusal, Used, FirstUsed}
@@ -37,17 +38,11 @@ zeros-unused n (suc k) = zeros-unused (suc n) k
 unused-zeros : (n : ℕ) (l : List ℕ) → first_from used_at n l ≡ none → l ≡ replicate (length l) 0
 unfolding first_from
 unused-zeros n [] e = refl
-unused-zeros n (b ∷ l) e =
-    let both = next-passed (used_at n b) (first_from used_at (suc n) l) e in
-    same-cons (eqb-true b 0 (require-passed (eqb b 0) _ passed both.0).0) (unused-zeros (suc n) l both.1)
+unused-zeros n (b ∷ l) e = same-cons (grind (arith, nat_tests)) (unused-zeros (suc n) l (grind (arith, nat_tests)))
 
 -- what a byte is refused for
 used-given : (n b : ℕ) (why : Refusal) → used_at n b ≡ some why → (refusal_at ReservedArea n ≡ why) × (b ≡ 0 → ⊥)
-used-given n b why e = by (eqb b 0) refl e
-  where
-    by : (t : Bool) → eqb b 0 ≡ t → require t (refusal_at ReservedArea n) passed ≡ some why → (refusal_at ReservedArea n ≡ why) × (b ≡ 0 → ⊥)
-    by true d e = absurd (passed-other why e)
-    by false d e = (cc, eqb-false b 0 d)
+used-given n b why e = grind (arith, nat_tests)
 
 -- ---- the bytes of the area by their numbers
 
@@ -128,7 +123,7 @@ used-first bytes n u = by (first_from used_at 44 (reserved_area bytes)) refl
 -- with 248 of them, what is in them decides
 pub content-decides : (bytes : List ℕ) → length bytes ≡ 248 → record_refusal bytes ≡ content_refusal bytes
 unfolding record_refusal
-content-decides bytes n = simp (eq-eqb (length bytes) 248 n)
+content-decides bytes n = grind (arith, nat_tests)
 
 -- with the area zero, the rules of the items
 pub zero-content : (bytes : List ℕ) → reserved_area bytes ≡ replicate 64 0 → content_refusal bytes ≡ broken items bytes
@@ -145,7 +140,7 @@ content-zero bytes n e =
 -- and no rule is broken
 pub content-rules : (bytes : List ℕ) → content_refusal bytes ≡ none → broken items bytes ≡ none
 unfolding content_refusal
-content-rules bytes e = (next-passed (reserved_refusal bytes) (broken items bytes) e).1
+content-rules bytes e = grind arith
 
 -- ---- when they give 15
 

@@ -3,17 +3,18 @@
 -- Assumes nothing.
 use mathlib.Core.Path.{◌≡◌, refl, sym, ap, ap₂, ◌∙◌, subst}
 use mathlib.Core.Bool.{Bool, true, false, cond, ◌&&◌, ◌||◌, false≢true}
-use mathlib.Core.Logic.{◌⊎◌, inl, inr}
+use mathlib.Core.Logic.{◌⊎◌}
 use mathlib.Core.List.{List, [], ◌∷◌, ◌++◌, append_assoc}
 use mathlib.Core.Option.{Option, none, some, some-ne-none, some-injective}
 use Prim.Native.Nat.{ℕ, ◌+◌, ◌-◌, ◌≤◌}
-use native.Mathlib.Nat.{zero-add}
 use native.Mathlib.Omega.{arith}
 use lib.Dec.{T, eqb, leb, leb→le, lit<}
 use lib.ListN.{length, take, drop, replicate, length-drop, take-append-drop}
 use lib.Seq.{length-take-le, drop-drop}
-use borrow.Author.Tests.{leb-true, eqb-true, eq-eqb, ne_eqb}
+use borrow.Author.Tests.{eqb-true, eq-eqb}
 use borrow.Rule.Slice.PartMut.{put_mid}
+use Rattle.std.proofs.lemmas.Bool.Decides.{nat_tests}
+use Rattle.std.proofs.lemmas.List.{nil_from_length}
 use Rattle.refusal.specs.Chain.{require, next, passed, left_by}
 use Rattle.refusal.specs.Number.{refusal_plain}
 use Rattle.refusal.specs.declared.Reason.{Reason}
@@ -135,14 +136,10 @@ all-sit =
     & as-it-is 13 108 tt 141 _ _ tt tt refl
     & tt
 
-number_by : (n : ℕ) (j i : Row) (t : Bool) (rest : Option Row) → eqb n j.number ≡ t → (rest ≡ some i → n ≡ i.number) → cond t (some j) rest ≡ some i → n ≡ i.number
-number_by n j i true rest p f e = eqb-true n j.number p ∙ ap (λ (k : Row). k.number) (some-injective j i e)
-number_by n j i false rest p f e = f e
-
 number-found : (is : List Row) (n : ℕ) (i : Row) → row_of n is ≡ some i → n ≡ i.number
 unfolding row_of
-number-found [] n i e = absurd (some-ne-none i (sym e))
-number-found (j ∷ is) n i e = number_by n j i (eqb n j.number) (row_of n is) refl (λ f. number-found is n i f) e
+number-found [] n i e = grind arith
+number-found (j ∷ is) n i e = grind (arith, nat_tests, number-found is n i)
 
 pub sits : (n : ℕ) (i : Row) → row_of n items ≡ some i → Sits i
 sits n i e = found Sits items n i all-sit e
@@ -180,22 +177,11 @@ module _ (r new : List ℕ) (i : Row) (l : length new ≡ i.long) (fits : end i 
   unfolding part
   part-before j h = before (put r (start i) new) r (start i) (start j) j.long (put-before r new (start i) there) h
 
-  part_by : (j : Row) (a b : Bool) → leb (end i) (start j) ≡ a → leb (end j) (start i) ≡ b → T (a || b) → part j (put r (start i) new) ≡ part j r
-  part_by j true b p q t = part-behind j (leb-true (end i) (start j) p)
-  part_by j false true p q t = part-before j (leb-true (end j) (start i) q)
-  part_by j false false p q t = absurd t
-
   part_apart : (j : Row) → T (apart i j) → part j (put r (start i) new) ≡ part j r
-  part_apart j t = part_by j (leb (end i) (start j)) (leb (end j) (start i)) refl refl t
+  part_apart j t = grind (arith, nat_tests, part-behind, part-before)
 
   part-apart' : (j : Row) → T (apart j i) → part j (put r (start i) new) ≡ part j r
-  part-apart' j t = part_by j (leb (end i) (start j)) (leb (end j) (start i)) refl refl (turn (leb (end j) (start i)) (leb (end i) (start j)) t)
-    where
-      turn : (a b : Bool) → T (a || b) → T (b || a)
-      turn true true t = t
-      turn true false t = t
-      turn false true t = t
-      turn false false t = t
+  part-apart' j t = grind (arith, nat_tests, part-behind, part-before)
 
 -- an item that shares no byte with these shares none with the one that has the number
 apart-found : (j i : Row) (js : List Row) (n : ℕ) → T (all_apart j js) → row_of n js ≡ some i → T (apart j i)
@@ -247,8 +233,7 @@ module _ (r new : List ℕ) (n : ℕ) (i : Row) (l : length new ≡ i.long) (fit
 
 -- the rules of a table are kept where each of them is
 require-both : (t : Bool) (why : Refusal) (rest : Option Refusal) → t ≡ true → rest ≡ none → require t why rest ≡ none
-require-both true why rest e f = f
-require-both false why rest e f = absurd (false≢true e)
+require-both t why rest e f = grind arith
 
 rules-kept : (r : List ℕ) (is : List Row) → Each (Kept r) is → broken is r ≡ none
 unfolding broken
@@ -350,19 +335,13 @@ part-long n r h =
 
 accepted-row : (bytes : List ℕ) (i : Row) → refused_in bytes (some i) ≡ none → (length bytes ≡ i.long) × (i.rule bytes ≡ true)
 unfolding refused_in
-accepted-row bytes i a =
-    let p = require-passed (eqb (length bytes) i.long) _ _ a in
-    (eqb-true (length bytes) i.long p.0, (require-passed (i.rule bytes) _ none p.1).0)
+accepted-row bytes i a = grind (arith, nat_tests)
 
 pub clean-long : (n : ℕ) (bytes : List ℕ) → item_refusal n bytes ≡ none → length (clean_of n bytes) ≡ (place_of n).length
 unfolding item_refusal refused_in place_of place_in clean_of clean_in
 clean-long n bytes =
     by_row n (λ o. refused_in bytes o ≡ none → length (clean_in bytes o) ≡ (place_in o).length) (λ a. absurd (some-ne-none _ a))
     (λ i e s a. s.long bytes (accepted-row bytes i a).0)
-
-empty : (l : List ℕ) → length l ≡ 0 → [] ≡ l
-empty [] e = refl
-empty (b ∷ l) e = absurd (omega (arith, e))
 
 module _ (n : ℕ) (r : List ℕ) (h : length r ≡ 248) where
   pub put-item-length : (new : List ℕ) → length new ≡ (place_of n).length → length (put_item n new r) ≡ 248
@@ -375,7 +354,7 @@ module _ (n : ℕ) (r : List ℕ) (h : length r ≡ 248) where
   pub put-item-part : (new : List ℕ) → length new ≡ (place_of n).length → item_part n (put_item n new r) ≡ new
   unfolding place_of place_in put_item put_in item_part part_in
   put-item-part new =
-      by_row n (λ o. length new ≡ (place_in o).length → part_in (put_in new r o) o ≡ new) (empty new)
+      by_row n (λ o. length new ≡ (place_in o).length → part_in (put_in new r o) o ≡ new) (λ l. sym (nil_from_length new l))
       (λ i e s l. part-put r new i l (omega (arith, s.inside)))
 
   -- the old part put back gives the old record
@@ -412,16 +391,11 @@ pub lent-start : (n : ℕ) (p : ItemPlace) (bytes : List ℕ) (at : ℕ × ℕ) 
 unfolding item_start
 lent-start n p bytes at e h = rw (e, eq-eqb (length bytes) 248 h)
 
-neither : (t : Bool) (at : ℕ × ℕ) → (◌≡◌ {A = List ℕ} [] (cond t [] [])) × (at ≡ bytes_on (cond t 0 0) at)
-neither true at = (refl, ap (λ (k : ℕ). (at.0, k)) (sym (zero-add at.1)))
-neither false at = (refl, ap (λ (k : ℕ). (at.0, k)) (sym (zero-add at.1)))
-
 -- where there is no such item, or another number of bytes, the part is empty, at the beginning
 pub lent-none : (n : ℕ) (bytes : List ℕ) (at : ℕ × ℕ) → (row_of n items ≡ none) ⊎ (length bytes ≡ 248 → ⊥)
     → ([] ≡ item_lent n bytes) × (at ≡ bytes_on (item_start n bytes) at)
 unfolding item_lent item_start item_part part_in place_of place_in
-lent-none n bytes at (inl e) = rw e (neither (eqb (length bytes) 248) at)
-lent-none n bytes at (inr h) = simp (ne_eqb (length bytes) 248 h) (neither false at)
+lent-none n bytes at h = (grind (arith, nat_tests), grind (arith, nat_tests))
 
 -- the private area is the part of item 13, and begins where that does
 pub private-item : (bytes : List ℕ) → item_lent 13 bytes ≡ private_part bytes
@@ -445,16 +419,10 @@ laid_by n f l i bytes old new e ef el s =
     rw (k, ef, s, e, append_assoc, drop-drop (length bytes) (start i) old)
 
 -- what putting bytes into a place asks
-put-checks-in : (bytes : List ℕ) (room : ℕ) (o : Option Row)
-    → put_refused_in bytes room o ≡ next (place_refused_in o) (require (eqb (length bytes) (place_in o).length) (refusal_plain Size) (require (eqb room 248) (refusal_plain Room) passed))
-unfolding put_refused_in place_refused_in place_in
-put-checks-in bytes room none = refl
-put-checks-in bytes room (some i) = refl
-
 pub put-checks : (n : ℕ) (bytes : List ℕ) (room : ℕ)
     → put_refusal n bytes room ≡ next (place_refusal n) (require (eqb (length bytes) (place_of n).length) (refusal_plain Size) (require (eqb room 248) (refusal_plain Room) passed))
-unfolding put_refusal place_refusal place_of
-put-checks n bytes room = put-checks-in bytes room (row_of n items)
+unfolding put_refusal put_refused_in place_refusal place_refused_in place_of place_in
+put-checks n bytes room = grind arith
 
 pub ruleset putting = put-checks
 
