@@ -1,7 +1,7 @@
 -- The view loses nothing: what passes the rules can be worked out from its view and its private area.
 -- Assumes nothing.
 use mathlib.Core.Path.{◌≡◌, refl, ap, sym, ◌∙◌}
-use mathlib.Core.Bool.{Bool, true, false, cond, ◌&&◌}
+use mathlib.Core.Bool.{true, false, cond, ◌&&◌}
 use mathlib.Core.List.{List, [], ◌∷◌, ◌++◌, flatten, map}
 use mathlib.Core.Logic.{◌⊎◌, ⊎_elim}
 use mathlib.Core.Option.{none}
@@ -98,60 +98,52 @@ picture-back a b c d e =
 
 -- ---- a cleaned picture mode says what it said before
 
--- the bit itself, 0 or 1, where it is read for one W0
-abbrev digit_for : ℕ → ℕ → ℕ → ℕ → ℕ
-digit_for v w i b = cond (eqb w v) (b / 2 ^ i % 2) 0
+-- each part of W1, W2 and W3, cleaned
+module _ (w b : ℕ) where
+  abbrev w1 : ℕ
+  w1 = bit_for 0x85 w 7 b + only_bit 6 b + low_half b
 
--- in its place it is the bit that is kept
-digit-for : (v w i b : ℕ) → bit_for v w i b ≡ digit_for v w i b * 2 ^ i
-unfolding bit_for only_bit
-digit-for v w i b = grind (arith, nat_tests)
+  abbrev w2 : ℕ
+  w2 = only_bit 7 b + bit_for 0x81 w 6 b + only_bit 5 b + low_half b
 
--- it is 0 or 1
-digit_lt : (t : Bool) (n : ℕ) → cond t (n % 2) 0 < 2
-digit_lt t n = grind arith
+  abbrev w3 : ℕ
+  w3 = bit_for 0x82 w 6 b + only_bit 0 b
 
--- tested once more, it is what it was
-for-again : (t : Bool) (n : ℕ) → (t && eqb (cond t n 0) 1) ≡ (t && eqb n 1)
-for-again t n = grind (arith, nat_tests)
+  transport-again : (eqb w 0x85 && bit_set 7 w1) ≡ (eqb w 0x85 && bit_set 7 b)
+  unfolding bit_for only_bit low_half
+  transport-again = grind (arith, nat_tests)
 
--- three bits and the low half, told apart
-record Told (n p q s r : ℕ) : Type 0 where
-  seven : n / 128 % 2 ≡ p
-  six : n / 64 % 2 ≡ q
-  five : n / 32 % 2 ≡ s
-  low : n % 16 ≡ r
+  progressive-again : bit_set 6 w1 ≡ bit_set 6 b
+  unfolding bit_for only_bit low_half
+  progressive-again = grind (arith, nat_tests)
 
-told : (n p q s r : ℕ) → n ≡ p * 128 + q * 64 + s * 32 + r → p < 2 → q < 2 → s < 2 → r < 16 → Told n p q s r
-told n p q s r e hp hq hs hr =
-    let past-seven : n / 128 ≡ p = omega arith in
-    let past-six : n / 64 ≡ p * 2 + q = omega arith in
-    let past-five : n / 32 ≡ p * 4 + q * 2 + s = omega arith in
-    record { seven = rw past-seven (omega arith); six = rw past-six (omega arith); five = rw past-five (omega arith); low = omega arith }
+  rate-again : w1 % 16 ≡ b % 16
+  unfolding bit_for only_bit low_half
+  rate-again = grind (arith, nat_tests)
 
--- W1, W2 and W3 cleaned
-first-told : (w b : ℕ) → Told (bit_for 0x85 w 7 b + only_bit 6 b + low_half b) (digit_for 0x85 w 7 b) (b / 64 % 2) 0 (low_half b)
-unfolding only_bit low_half
-first-told w b =
-    told _ _ _ _ _ (omega (arith, digit-for 0x85 w 7 b)) (digit_lt (eqb w 0x85) (b / 128)) (omega arith) (omega arith) (omega arith)
+  wide-again : bit_set 7 w2 ≡ bit_set 7 b
+  unfolding bit_for only_bit low_half
+  wide-again = grind (arith, nat_tests)
 
-second-told : (w b : ℕ)
-    → Told (only_bit 7 b + bit_for 0x81 w 6 b + only_bit 5 b + low_half b) (b / 128 % 2) (digit_for 0x81 w 6 b) (b / 32 % 2) (low_half b)
-unfolding only_bit low_half
-second-told w b =
-    told _ _ _ _ _ (omega (arith, digit-for 0x81 w 6 b)) (omega arith) (digit_lt (eqb w 0x81) (b / 64)) (omega arith) (omega arith)
+  samples-again : (eqb w 0x81 && bit_set 6 w2) ≡ (eqb w 0x81 && bit_set 6 b)
+  unfolding bit_for only_bit low_half
+  samples-again = grind (arith, nat_tests)
 
-third-told : (w b : ℕ) → Told (bit_for 0x82 w 6 b + only_bit 0 b) 0 (digit_for 0x82 w 6 b) 0 (b % 2)
-unfolding only_bit
-third-told w b =
-    told _ _ _ _ _ (omega (arith, digit-for 0x82 w 6 b)) (omega arith) (digit_lt (eqb w 0x82) (b / 64)) (omega arith) (omega arith)
+  display-again : bit_set 5 w2 ≡ bit_set 5 b
+  unfolding bit_for only_bit low_half
+  display-again = grind (arith, nat_tests)
 
--- the lowest bit, from a low half that is that bit
-low_bit : (n r : ℕ) → n % 16 ≡ r % 2 → n / 1 % 2 ≡ r / 1 % 2
-low_bit n r e = omega arith
+  sampling-again : w2 % 16 ≡ b % 16
+  unfolding bit_for only_bit low_half
+  sampling-again = grind (arith, nat_tests)
 
-is_one : {m n : ℕ} → m ≡ n → eqb m 1 ≡ eqb n 1
-is_one e = ap (λ (k : ℕ). eqb k 1) e
+  link-again : (eqb w 0x82 && bit_set 6 w3) ≡ (eqb w 0x82 && bit_set 6 b)
+  unfolding bit_for only_bit
+  link-again = grind (arith, nat_tests)
+
+  ten-again : bit_set 0 w3 ≡ bit_set 0 b
+  unfolding bit_for only_bit
+  ten-again = grind (arith, nat_tests)
 
 -- cleaned, there are still four bytes
 clean-entries : (w : List ℕ) → picture_clean w ≡ entries 4 0 (picture_clean w)
@@ -167,24 +159,21 @@ picture-again w =
     let b : ℕ = get_or w 1 0 in
     let c : ℕ = get_or w 2 0 in
     let d : ℕ = get_or w 3 0 in
-    let one = first-told a b in
-    let two = second-told a c in
-    let three = third-told a d in
     ⊎_elim (λ e. rw e)
     (λ (e : eqb a 0x00 ≡ false). rw (e, e)
     (λ i.
     Some
     (record {
       format = a % 128;
-      transport_progressive = (ap (λ (t : Bool). eqb a 0x85 && t) (is_one one.seven) ∙ for-again (eqb a 0x85) (b / 128 % 2)) i;
-      progressive = is_one one.six i;
-      frame_rate = one.low i;
-      wide_picture = is_one two.seven i;
-      samples_960 = (ap (λ (t : Bool). eqb a 0x81 && t) (is_one two.six) ∙ for-again (eqb a 0x81) (c / 64 % 2)) i;
-      wide_display = is_one two.five i;
-      sampling = two.low i;
-      second_link = (ap (λ (t : Bool). eqb a 0x82 && t) (is_one three.six) ∙ for-again (eqb a 0x82) (d / 64 % 2)) i;
-      ten_bits = is_one (low_bit _ d three.low) i;
+      transport_progressive = transport-again a b i;
+      progressive = progressive-again a b i;
+      frame_rate = rate-again a b i;
+      wide_picture = wide-again a c i;
+      samples_960 = samples-again a c i;
+      wide_display = display-again a c i;
+      sampling = sampling-again a c i;
+      second_link = link-again a d i;
+      ten_bits = ten-again a d i;
     })))
     (cases_Bool (eqb a 0x00))
 
