@@ -134,23 +134,23 @@ fn bit(i: u32, b: u8) -> bool
 }
 
 #[tactic(auto, unfolding(crate::specs::View::picture_of, rules::specs::Rules::low_half))]
-fn picture_of(w0: u8, w1: u8, w2: u8, w3: u8) -> Option<Picture>
-    ensures { result ≡ picture_of w0 w1 w2 w3 }
+fn picture_of(w: [u8; 4]) -> Option<Picture>
+    ensures { result ≡ picture_of (get_or w 0 0) (get_or w 1 0) (get_or w 2 0) (get_or w 3 0) }
 {
-    if w0 == 0 {
+    if w[0] == 0 {
         return None;
     }
     Some(Picture {
-        format: w0 % 128,
-        transport_progressive: (w0 == 0x85) & bit(7, w1),
-        progressive: bit(6, w1),
-        frame_rate: w1 % 16,
-        wide_picture: bit(7, w2),
-        samples_960: (w0 == 0x81) & bit(6, w2),
-        wide_display: bit(5, w2),
-        sampling: w2 % 16,
-        second_link: (w0 == 0x82) & bit(6, w3),
-        ten_bits: bit(0, w3),
+        format: w[0] % 128,
+        transport_progressive: (w[0] == 0x85) & bit(7, w[1]),
+        progressive: bit(6, w[1]),
+        frame_rate: w[1] % 16,
+        wide_picture: bit(7, w[2]),
+        samples_960: (w[0] == 0x81) & bit(6, w[2]),
+        wide_display: bit(5, w[2]),
+        sampling: w[2] % 16,
+        second_link: (w[0] == 0x82) & bit(6, w[3]),
+        ten_bits: bit(0, w[3]),
     })
 }
 
@@ -172,8 +172,8 @@ fn view_of(bytes: &[u8; 248]) -> RecordView
     RecordView {
         station: array_of(&bytes[0..8]),
         time: time_of(bytes),
-        picture: picture_of(bytes[17], bytes[18], bytes[19], bytes[20]),
-        next_picture: picture_of(bytes[21], bytes[22], bytes[23], bytes[24]),
+        picture: picture_of([bytes[17], bytes[18], bytes[19], bytes[20]]),
+        next_picture: picture_of([bytes[21], bytes[22], bytes[23], bytes[24]]),
         picture_countdown: count_of(bytes[25]),
         sound: sound_of(bytes[26]),
         next_sound: sound_of(bytes[27]),
