@@ -4,7 +4,7 @@
 #![tactic(auto)]
 
 ghost use Rattle.std.specs.Prelude.{◌≡◌, cond, ◌*◌, ◌/◌, ◌%◌, ◌≤◌, ◌<◌, length};
-ghost use Rattle.rules.specs.Rules.{within, one_of, station_byte, station_rule, time_byte, time_rule, picture_rule, picture_clean, sound_byte};
+ghost use Rattle.rules.specs.Rules.{station_byte, station_rule, time_byte, time_rule, picture_rule, picture_clean, sound_byte};
 
 // The bytes, by value, where their number is fixed.
 pub fn array_of<const N: usize>(bytes: &[u8]) -> [u8; N]
@@ -16,20 +16,13 @@ pub fn array_of<const N: usize>(bytes: &[u8]) -> [u8; N]
     array
 }
 
-// Is n one of low to high?
-fn between(low: u8, high: u8, n: u8) -> bool
-    ensures { result ≡ within low high n }
-{
-    (low <= n) & (n <= high)
-}
-
 // ---- item 1, station code
 
 #[tactic(auto, unfolding(crate::specs::Rules::station_byte))]
 fn station_byte(b: u8) -> bool
     ensures { result ≡ station_byte b }
 {
-    between(0x20, 0x7E, b) | between(0xA1, 0xFE, b)
+    (0x20..=0x7E).contains(&b) | (0xA1..=0xFE).contains(&b)
 }
 
 // May each byte stand in a station code?
@@ -48,7 +41,7 @@ fn time_byte(low: u8, high: u8, b: u8) -> bool
 {
     let tens = b / 16;
     let units = b % 16;
-    (b == 0xFF) | ((tens <= 9) & (units <= 9) & between(low, high, tens * 10 + units))
+    (b == 0xFF) | ((tens <= 9) & (units <= 9) & (low..=high).contains(&(tens * 10 + units)))
 }
 
 // May these nine bytes stand for a time? The last two, the milliseconds, are both sent or both not.
@@ -73,7 +66,7 @@ pub fn picture(w: [u8; 4]) -> bool
 {
     let rate = [0, 2, 3, 5, 6, 7, 9, 10, 11].contains(&(w[1] % 16));
     let sampling = [0, 1, 2, 3, 4, 5, 6, 8, 9, 10].contains(&(w[2] % 16));
-    (w[0] == 0) | (between(0x81, 0x85, w[0]) & rate & sampling)
+    (w[0] == 0) | ((0x81..=0x85).contains(&w[0]) & rate & sampling)
 }
 
 // The four bytes of a picture mode with every bit that isn't read set to zero. Each mask has the bits that are read: b7 of W1 only for 0x85, b6
@@ -100,5 +93,5 @@ pub fn sound_byte(b: u8) -> bool
     let mode = b % 32;
     let high = b / 32;
     let several = [0x11, 0x12, 0x15, 0x17].contains(&mode);
-    (mode <= 0x1A) & ((high == 0) | (between(4, 7, high) & several))
+    (mode <= 0x1A) & ((high == 0) | ((4..=7).contains(&high) & several))
 }

@@ -4,7 +4,9 @@ use mathlib.Core.Path.{◌≡◌, refl, ◌∙◌}
 use mathlib.Core.List.{[], ◌∷◌}
 use Prim.Native.Nat.{◌%◌}
 use lib.ListN.{get_or}
-use Rattle.rules.specs.Rules.{one_of, low_half, picture_rule}
+use native.Mathlib.Omega.{arith}
+use Rattle.std.proofs.lemmas.Bool.Decides.{nat_tests}
+use Rattle.rules.specs.Rules.{within, one_of, low_half, picture_rule}
 use Rattle.rules.proofs.Laws.Rules.{list_any-one_of}
 use Rattle.rules.proofs.picture.Goals as goal
 
@@ -16,4 +18,5 @@ returns c =
     c.contains-rate.ensures.value ∙ list_any-one_of _ (get_or w 1 0 % 16) in
     let sampling : c.contains-sampling.result ≡ one_of (0 ∷ 1 ∷ 2 ∷ 3 ∷ 4 ∷ 5 ∷ 6 ∷ 8 ∷ 9 ∷ 10 ∷ []) (get_or w 2 0 % 16) =
     c.contains-sampling.ensures.value ∙ list_any-one_of _ (get_or w 2 0 % 16) in
-    rw (c.between.ensures, rate, sampling) refl
+    let used : c.contains.result ≡ within 0x81 0x85 (get_or w 0 0) = grind (arith, nat_tests) in
+    rw (used, rate, sampling) refl
