@@ -10,6 +10,7 @@ fn byte(old: u8, new: u8) -> u8
 }
 
 // The triggers that were 0 and are 1, Q1 lowest; none where there is no record before.
+// No Option of the record before: the follower's stands in fixed memory also where nothing was started.
 #[tactic(auto, unfolding(crate::specs::Onsets::onsets_after, crate::specs::Onsets::onsets_of))]
 pub fn onsets(started: bool, old: &[u8; 248], new: &[u8; 248]) -> u32
     ensures { result ≡ onsets_after started old.now new.now }

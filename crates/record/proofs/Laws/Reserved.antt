@@ -11,12 +11,12 @@ use Prim.Native.Nat.{ℕ, zero, suc, ◌+◌, ◌-◌, ◌≤◌, ◌<◌}
 use native.Mathlib.Omega.{arith}
 use lib.Dec.{eqb}
 use lib.ListN.{length, get_or, drop, replicate, get_or-replicate, get_or-eq_default}
-use borrow.Author.Tests.{eqb-true, eqb-false, eq-eqb, ne_eqb, not-true}
+use borrow.Author.Tests.{eqb-true, eq-eqb, ne_eqb, not-true}
 use Rattle.std.proofs.lemmas.Bool.Decides.{nat_tests}
 use Rattle.basics.specs.Each.{all}
 use Rattle.basics.proofs.Laws.Test.{lt-or-le}
 use Rattle.basics.proofs.Laws.Parts.{run_length, take-most, run_at, same-cons}
-use Rattle.refusal.specs.Chain.{require, passed}
+use Rattle.refusal.specs.Chain.{passed}
 use Rattle.refusal.specs.Run.{first_from, FirstRefused}
 use Rattle.refusal.specs.Number.{number_of, refusal_at, refusal_plain}
 use Rattle.refusal.specs.declared.Reason.TheVariants.{ReservedArea, Size}
@@ -61,24 +61,16 @@ there l i f = ⊎_elim (λ h. h) (λ h. absurd (f (get_or-eq_default l 0 h))) (l
 module _ (bytes : List ℕ) where
   -- entry i is byte 44 + i
   used-entry : (i : ℕ) → i < 64 → (get_or (reserved_area bytes) i 0 ≡ 0 → ⊥) → Used bytes (44 + i)
-  used-entry i h f =
-      let k : 44 + i - 1 ≡ 43 + i = omega arith in
-      record { from = omega arith; to = omega arith; other = λ e. f (area-at bytes i h ∙ (rw k at e)) }
+  used-entry i h f = record { from = omega arith; to = omega arith; other = λ e. f (grind (arith, area-at)) }
 
   entry-used : (n : ℕ) → Used bytes n → get_or (reserved_area bytes) (n - 44) 0 ≡ 0 → ⊥
-  entry-used n u e =
-      let k : 43 + (n - 44) ≡ n - 1 = omega (arith, u.from) in
-      u.other (rw k at (sym (area-at bytes (n - 44) (omega (arith, u.from, u.to))) ∙ e))
+  entry-used n u e = u.other (grind (arith, area-at, u.from, u.to))
 
   -- ---- 15 is given at the first byte that is not zero
 
   -- a byte that is not used is zero
   zero-at : (i : ℕ) → i < 64 → (Used bytes (44 + i) → ⊥) → used_at (44 + i) (get_or (reserved_area bytes) i 0) ≡ passed
-  zero-at i h f = by (eqb (get_or (reserved_area bytes) i 0) 0) refl
-    where
-      by : (t : Bool) → eqb (get_or (reserved_area bytes) i 0) 0 ≡ t → require t (refusal_at ReservedArea (44 + i)) passed ≡ passed
-      by true d = refl
-      by false d = absurd (f (used-entry i h (eqb-false _ 0 d)))
+  zero-at i h f = grind (arith, nat_tests, used-entry)
 
   pub reserved-first : (place : ℕ) → (reserved_refusal bytes ≡ some (refusal_at ReservedArea place)) ↔ FirstUsed bytes place
   unfolding reserved_refusal

@@ -20,7 +20,6 @@ use Rattle.refusal.specs.Number.{refusal_plain}
 use Rattle.refusal.specs.declared.Reason.{Reason}
 use Rattle.refusal.specs.declared.Reason.TheVariants.{Picture, Size, Room}
 use Rattle.refusal.specs.declared.Refusal.{Refusal}
-use Rattle.refusal.proofs.Laws.Chain.{require-passed}
 use Rattle.basics.specs.Below.{Bytes}
 use Rattle.basics.proofs.Laws.Below.{entry-below, append-below, take_below, drop-below}
 use Rattle.basics.proofs.Laws.Test.{both_left, both_right}
@@ -232,20 +231,15 @@ module _ (r new : List ℕ) (n : ℕ) (i : Row) (l : length new ≡ i.long) (fit
       (λ f. kept_put js (both_right (all_apart j js) (none_share js) t) f k.1) e
 
 -- the rules of a table are kept where each of them is
-require-both : (t : Bool) (why : Refusal) (rest : Option Refusal) → t ≡ true → rest ≡ none → require t why rest ≡ none
-require-both t why rest e f = grind arith
-
 rules-kept : (r : List ℕ) (is : List Row) → Each (Kept r) is → broken is r ≡ none
 unfolding broken
 rules-kept r [] k = refl
-rules-kept r (i ∷ is) k = require-both (i.rule (part i r)) _ (broken is r) k.0.rule (rules-kept r is k.1)
+rules-kept r (i ∷ is) k = grind (arith, k.0.rule, rules-kept r is k.1)
 
 each-kept : (r : List ℕ) (is : List Row) → broken is r ≡ none → Each (λ i. i.clean (part i r) ≡ part i r) is → Each (Kept r) is
 unfolding broken
 each-kept r [] b c = tt
-each-kept r (i ∷ is) b c =
-    let p = require-passed (i.rule (part i r)) _ (broken is r) b in
-    (record { rule = p.0; clean = c.0 }, each-kept r is p.1 c.1)
+each-kept r (i ∷ is) b c = (record { rule = grind arith; clean = c.0 }, each-kept r is (grind arith) c.1)
 
 -- ---- a clean record: nothing in it is refused, and it is its own record
 
@@ -377,9 +371,7 @@ store-clean n bytes r =
 lent_by : (n f l : ℕ) (i : Row) (bytes : List ℕ) → row_of n items ≡ some i → f ≡ i.first → l ≡ i.long → length bytes ≡ 248
     → take (f - 1 + l - (f - 1)) (drop (f - 1) bytes) ≡ item_lent n bytes
 unfolding item_lent item_part part_in part
-lent_by n f l i bytes e ef el h =
-    let k : f - 1 + l - (f - 1) ≡ l = omega arith in
-    rw (k, ef, el, h, e)
+lent_by n f l i bytes e ef el h = grind arith
 
 pub lent-part : (n : ℕ) (p : ItemPlace) (bytes : List ℕ) → p ≡ place_of n → length bytes ≡ 248 → place_refusal n ≡ none
     → take (p.first - 1 + p.length - (p.first - 1)) (drop (p.first - 1) bytes) ≡ item_lent n bytes
