@@ -48,14 +48,10 @@ infixr 5 ◌&◌
 p & q = (p, q)
 
 -- the row that has a number is the first one or stands in the rest
-found-by : (P : Row → Type 0) (j i : Row) (t : Bool) (rest : Option Row) → P j → (rest ≡ some i → P i) → cond t (some j) rest ≡ some i → P i
-found-by P j i true rest p f e = subst P (some-injective j i e) p
-found-by P j i false rest p f e = f e
-
 pub found : (P : Row → Type 0) (is : List Row) (n : ℕ) (i : Row) → Each P is → row_of n is ≡ some i → P i
 unfolding row_of
 found P [] n i p e = absurd (some-ne-none i (sym e))
-found P (j ∷ is) n i p e = found-by P j i (eqb n j.number) (row_of n is) p.0 (λ f. found P is n i p.1 f) e
+found P (j ∷ is) n i p e = grind (arith, nat_tests, p.0, found P is n i p.1)
 
 -- ---- the rows stand in the record, and what they set to zero is settled
 
