@@ -15,10 +15,10 @@ pub fn repair(words: &[u16], out: &mut [u16]) -> Result<u8, Refusal>
     require(words.len() == 254, refusal::plain(Reason::Size))?;
     require(anc::narrow(words), refusal::plain(Reason::Wide))?;
     let mut bytes = [0u8; 254];
-    anc::low_bytes(words, &mut bytes)?;
+    anc::low_bytes(words, &mut bytes).unwrap();
     search::repair_marked(&mut bytes, words)?;
     require(out.len() == 254, refusal::plain(Reason::Room))?;
-    anc::sound_words(&bytes, out)?;
+    anc::sound_words(&bytes, out).unwrap();
     count_fixed(words, &bytes)
 }
 

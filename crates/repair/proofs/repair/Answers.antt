@@ -4,8 +4,8 @@ use mathlib.Core.Path.{◌≡◌, refl, sym, ap, ◌∙◌}
 use mathlib.Core.List.{List}
 use Prim.Native.Nat.{ℕ}
 use borrow.Author.Tests.{eqb-true}
-use lib.ListN.{length, replicate}
-use Rattle.std.specs.Prelude.{Ok, Err, eqb}
+use lib.ListN.{length}
+use Rattle.std.specs.Prelude.{is_ok, Ok, Err, eqb}
 use Rattle.refusal.specs.declared.Refusal.{Refusal}
 use Rattle.refusal.specs.Chain.{require, passed}
 use Rattle.refusal.specs.Checked.{Checked, checked_of}
@@ -16,7 +16,7 @@ use Rattle.search.proofs.Laws.Marked.{marked-leaves}
 use Rattle.repair.specs.Protected.{repaired, rewritten, fixed_of, repair_refusal}
 use Rattle.repair.specs.Repair.{repaired_of, repair_leaves}
 use Rattle.anc.specs.Words.{sound_words}
-use Rattle.anc.proofs.Laws.Words.{low_bytes-length, low-filled, sound-filled, low-never, sound-never}
+use Rattle.anc.proofs.Laws.Words.{low_bytes-length, low-filled, sound-filled, low-done, sound-done}
 use Rattle.repair.proofs.Laws.Changes.{counted_words}
 use Rattle.repair.proofs.Laws.Repair.{repaired-length, near-said}
 use Rattle.repair.proofs.repair.Goals as goal
@@ -45,10 +45,10 @@ returns-in_err-require-2 c =
 long : (words : List ℕ) (why : Refusal) {a : Checked} → a ≡ checked_of (require (eqb (length words) 254) why passed) → a ≡ Ok tt → length words ≡ 254
 long words why e h = eqb-true (length words) 254 (check-passed _ why (sym h ∙ e))
 
-pub returns-in_err-low_bytes : goal.returns-in_err-low_bytes
-returns-in_err-low_bytes c =
+pub unwrap-requires : goal.unwrap-requires
+unwrap-requires c =
     let ws = c.args.words.now in
-    absurd (low-never ws (replicate 254 0) (long ws _ c.require.ensures c.in_ok-require.was) c.low_bytes.ensures.0 c.in_err-low_bytes.was)
+    ap is_ok (low-done ws _ c.low_bytes.ensures.0 (long ws _ c.require.ensures c.in_ok-require.was))
 
 pub returns-in_err-repair_marked : goal.returns-in_err-repair_marked
 unfolding repair_refusal
@@ -77,15 +77,15 @@ returns-in_err-require-3 c =
 repaired-long : (words got : List ℕ) → length words ≡ 254 → got ≡ repaired words → length got ≡ 254
 repaired-long words got n e = ap length e ∙ repaired-length words ∙ n
 
-pub returns-in_err-sound_words : goal.returns-in_err-sound_words
+pub unwrap-requires-2 : goal.unwrap-requires-2
 unfolding repaired
-returns-in_err-sound_words c =
+unwrap-requires-2 c =
     let ws = c.args.words.now in
     let n = long ws _ c.require.ensures c.in_ok-require.was in
     let room = long c.args.out.now _ c.require-3.ensures c.in_ok-require-3.was in
     let low = low-filled _ ws _ c.low_bytes.ensures.1 n in
     let same = c.repair_marked.ensures.1 ∙ ap (marked_leaves ws) low ∙ marked-leaves ws _ n (low_bytes-length ws ∙ n) in
-    absurd (sound-never _ _ (repaired-long ws _ n same ∙ sym room) c.sound_words.ensures.0 c.in_err-sound_words.was)
+    ap is_ok (sound-done _ _ c.sound_words.ensures.0 (repaired-long ws _ n same ∙ sym room))
 
 pub returns : goal.returns
 unfolding repaired_of repair_leaves repair_refusal repaired rewritten fixed_of
