@@ -1,33 +1,27 @@
 -- What reading a packet answers and leaves, and what each of its answers says.
 -- Assumes nothing.
-use Rattle.std.specs.Prelude.{Bool, cond, List, ◌++◌, ℕ, eqb, length, take, drop}
+use Rattle.std.specs.Prelude.{Result, Ok, Err, Bool, cond, List, ◌++◌, ℕ, eqb, length, take, drop}
 use Rattle.std.proofs.Math.Option.{Option, none, some}
 use Rattle.anc.specs.Word.{checksum_of}
 use Rattle.refusal.specs.Chain.{require}
+use Rattle.refusal.specs.Checked.{answer_of}
 use Rattle.refusal.specs.Number.{refusal_plain}
 use Rattle.refusal.specs.declared.Reason.TheVariants.{Checksum}
 use Rattle.refusal.specs.declared.Refusal.{Refusal}
 use Rattle.rs.specs.Decode.{changes}
 use Rattle.record.specs.Record.{record_refusal}
 use Rattle.reading.specs.declared.Packet.{Packet}
-use Rattle.reading.specs.declared.Reading.{Reading}
-use Rattle.reading.specs.declared.Reading.TheVariants.{Accepted, Refused}
 use Rattle.repair.specs.Protected.{rewritten}
 use Rattle.anc.specs.Words.{low_bytes, sound_words}
 use Rattle.refusal.specs.Chain.{left_by}
 use Rattle.reading.specs.Reading.{word, correction_of, index_of, read_fixed, protected_of, read_refusal, read_into_refusal, read_record}
 
--- ---- what an answer says, for every case of it
-
--- the refusal, which has its number and its place
-abbrev pub refusal_in : Reading → Option Refusal
-refusal_in (Accepted p) = none
-refusal_in (Refused why) = some why
+-- ---- what an answer says, for every case of it; its refusal is `refusal_in`
 
 -- the packet, which has its correction bit, its index and how many words were fixed
-abbrev pub packet_in : Reading → Option Packet
-packet_in (Accepted p) = some p
-packet_in (Refused why) = none
+abbrev pub packet_in : Result Packet Refusal → Option Packet
+packet_in (Ok p) = some p
+packet_in (Err why) = none
 
 -- ---- the answer
 
@@ -35,16 +29,12 @@ unfoldable pub packet_of : List ℕ → Packet
 packet_of words = record { correction = correction_of words; ci = index_of words; fixed = read_fixed words }
 
 -- the refusal where there is one, else the packet
-abbrev pub reading_by : Option Refusal → Packet → Reading
-reading_by none p = Accepted p
-reading_by (some why) p = Refused why
-
-unfoldable pub reading_of : List ℕ → Reading
-reading_of words = reading_by (read_refusal words) (packet_of words)
+unfoldable pub reading_of : List ℕ → Result Packet Refusal
+reading_of words = answer_of (read_refusal words) (packet_of words)
 
 -- into room for so many bytes
-unfoldable pub reading_into_of : List ℕ → ℕ → Reading
-reading_into_of words room = reading_by (read_into_refusal words room) (packet_of words)
+unfoldable pub reading_into_of : List ℕ → ℕ → Result Packet Refusal
+reading_into_of words room = answer_of (read_into_refusal words room) (packet_of words)
 
 -- what is left in the lent buffer: the record, or what was there
 unfoldable pub read_leaves : List ℕ → List ℕ → List ℕ

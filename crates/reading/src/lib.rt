@@ -6,47 +6,31 @@ mod reader;
 ghost use Rattle.std.specs.Prelude.{◌≡◌, length};
 ghost use Rattle.reading.specs.Answer.{reading_of, reading_into_of, read_leaves};
 
+use refusal::Refusal;
+
 // What an accepted packet is: is correction on, its index CI, and how many protected words' ten bits changed, 0 to 254.
-#[derive(Clone, Copy)]
+#[derive(Clone, Copy, Debug, PartialEq, Eq)]
 pub struct Packet {
     pub correction: bool,
     pub ci: u8,
     pub fixed: u8,
 }
 
-// What reading answers: the packet, or why there is none.
-#[derive(Clone, Copy)]
-pub enum Reading {
-    Accepted(Packet),
-    Refused(refusal::Refusal),
-}
-
 // Reads a packet: its 262 words are checked in a fixed order, and the first check that fails is the refusal.
-pub fn read_packet(words: &[u16]) -> Reading
+pub fn read_packet(words: &[u16]) -> Result<Packet, Refusal>
     ensures { result ≡ reading_of words.now }
 {
     let mut bytes = [0u8; 254];
-    let checked = reader::check(words, &mut bytes);
-    match checked {
-        refusal::Checked::Passed => Reading::Accepted(reader::packet(words, &bytes)),
-        refusal::Checked::Refused(why) => Reading::Refused(why),
-    }
+    reader::check(words, &mut bytes)?;
+    Ok(reader::packet(words, &bytes))
 }
 
 // Reads a packet, and leaves its record of 248 bytes in `out`. A refusal leaves `out` as it was.
-pub fn read_packet_into(words: &[u16], out: &mut [u8]) -> Reading
+pub fn read_packet_into(words: &[u16], out: &mut [u8]) -> Result<Packet, Refusal>
     ensures { (result ≡ reading_into_of words.now (length out.old)) × (out.new ≡ read_leaves words.now out.old) }
 {
     let mut bytes = [0u8; 254];
-    let checked = reader::check(words, &mut bytes);
-    match checked {
-        refusal::Checked::Passed => {
-            let wrote = record::write_record(&bytes[0..248], out);
-            match wrote {
-                refusal::Checked::Passed => Reading::Accepted(reader::packet(words, &bytes)),
-                refusal::Checked::Refused(why) => Reading::Refused(why),
-            }
-        }
-        refusal::Checked::Refused(why) => Reading::Refused(why),
-    }
+    reader::check(words, &mut bytes)?;
+    record::write_record(&bytes[0..248], out)?;
+    Ok(reader::packet(words, &bytes))
 }

@@ -10,17 +10,16 @@ ghost use Rattle.reading.specs.Reading.{correction_of, protected_of, is_header, 
 ghost use Rattle.reading.specs.Answer.{packet_by, tail_refusal, guard_bytes, summed_by};
 
 use crate::Packet;
-use refusal::{Checked, Reason, then};
+use refusal::{Reason, Refusal, plain, require};
 
 // Is the word a header: sound, with b6 to b4 zero?
 fn is_header(word: u16) -> bool
     ensures { result ≡ is_header word }
 {
-    let soundness = soundness::check_word(word);
-    match soundness {
-        soundness::Soundness::Sound => word / 16 % 8 == 0,
-        soundness::Soundness::Unsound(_) => false,
-        soundness::Soundness::Refused(_) => false,
+    match soundness::check_word(word) {
+        Ok(None) => word / 16 % 8 == 0,
+        Ok(Some(_)) => false,
+        Err(_) => false,
     }
 }
 
@@ -28,44 +27,36 @@ fn is_header(word: u16) -> bool
 fn all_fill(words: &[u16]) -> bool
     ensures { result ≡ all is_fill words.now }
 {
-    let mut ok = true;
-    let mut i = 0;
-    while i < words.len() {
-        ok = ok & (words[i] == 0x200);
-        i += 1;
-    }
-    ok
+    words.iter().all(|word| *word == 0x200)
 }
 
 // What the words are refused for before the protected ones are looked at.
 #[tactic(auto, unfolding(crate::specs::Reading::head_refusal))]
-fn head_refusal(words: &[u16]) -> Checked
+fn check_head(words: &[u16]) -> Result<(), Refusal>
     ensures { result ≡ checked_of (head_refusal words.now) }
 {
-    if words.len() != 262 {
-        return Checked::Refused(refusal::plain(Reason::Length));
-    }
-    let is_kind = (words[3] == 0x25F) & (words[4] == 0x1FE);
-    let header = words[6];
-    let length = Checked::Passed;
-    let wide = then(length, anc::narrow(words), Reason::Wide, 0);
-    let flag = then(wide, anc::has_flag(words), Reason::Flag, 0);
-    let kind = then(flag, is_kind, Reason::Kind, 0);
-    let count = then(kind, words[5] == 0x2FF, Reason::Count, 0);
-    then(count, is_header(header), Reason::Header, 0)
+    require(words.len() == 262, plain(Reason::Length))?;
+    require(anc::narrow(words), plain(Reason::Wide))?;
+    require(anc::has_flag(words), plain(Reason::Flag))?;
+    require(
+        (words[3] == 0x25F) & (words[4] == 0x1FE),
+        plain(Reason::Kind),
+    )?;
+    require(words[5] == 0x2FF, plain(Reason::Count))?;
+    require(is_header(words[6]), plain(Reason::Header))
 }
 
 // Fills `out` with the bytes of the 254 protected words as they are read, and says what the words are refused for.
-fn read_bytes(words: &[u16], correction: bool, out: &mut [u8]) -> Checked
+fn read_bytes(words: &[u16], correction: bool, out: &mut [u8]) -> Result<(), Refusal>
     requires { (length words.now ≡ 254) × (length out.old ≡ 254) }
     ensures { (result ≡ checked_of (protected_refusal correction words.now)) × (out.new ≡ guard_bytes correction words.now) }
 {
-    anc::low_bytes(words, out);
+    anc::low_bytes(words, out).unwrap();
     if correction {
         return search::repair_marked(out, words);
     }
-    let parity = soundness::check_words(&words[0..248]);
-    then(parity, all_fill(&words[248..254]), Reason::Fill, 0)
+    soundness::check_words(&words[0..248])?;
+    require(all_fill(&words[248..254]), plain(Reason::Fill))
 }
 
 // The checksum of the words from DID to the last user word, with the sound words of the bytes in the protected places.
@@ -74,11 +65,12 @@ fn sum_rewritten(words: &[u16], bytes: &[u8]) -> u16
     ensures { result ≡ checksum_of (summed_by true words.now bytes.now) }
 {
     let mut summed = [0u16; 258];
+    // Word by word: with two parts of the array lent one after the other, the bounds of the whole stayed open.
     summed[0] = words[3];
     summed[1] = words[4];
     summed[2] = words[5];
     summed[3] = words[6];
-    anc::sound_words(bytes, &mut summed[4..258]);
+    anc::sound_words(bytes, &mut summed[4..258]).unwrap();
     anc::checksum(&summed)
 }
 
@@ -95,70 +87,50 @@ fn sum_read(words: &[u16], correction: bool, bytes: &[u8]) -> u16
 
 // What the words are refused for once their bytes are read: the checksum, then the record.
 #[tactic(auto, unfolding(crate::specs::Answer::tail_refusal))]
-fn tail_refusal(words: &[u16], correction: bool, bytes: &[u8]) -> Checked
+fn check_tail(words: &[u16], correction: bool, bytes: &[u8]) -> Result<(), Refusal>
     requires { (length words.now ≡ 262) × (length bytes.now ≡ 254) }
     ensures { result ≡ checked_of (tail_refusal words.now correction bytes.now) }
 {
     let is_sum = sum_read(words, correction, bytes) == words[261];
-    let sum = then(Checked::Passed, is_sum, Reason::Checksum, 0);
-    let rec = record::record_refusal(&bytes[0..248]);
-    refusal::next(sum, rec)
+    require(is_sum, plain(Reason::Checksum))?;
+    record::record_refusal(&bytes[0..248])
 }
 
 // Fills `bytes` with those of the protected words as they are read, and says what the words are refused for behind the header.
-fn check_body(words: &[u16], bytes: &mut [u8]) -> Checked
+fn check_body(words: &[u16], bytes: &mut [u8]) -> Result<(), Refusal>
     requires { (length words.now ≡ 262) × (length bytes.old ≡ 254) }
     ensures { (result ≡ checked_of (body_refusal words.now)) × (bytes.new ≡ guard_bytes (correction_of words.now) (protected_of words.now)) }
 {
     let on = words[6] / 128 % 2 == 1;
-    let guarded = read_bytes(&words[7..261], on, bytes);
-    match guarded {
-        Checked::Passed => tail_refusal(words, on, bytes),
-        Checked::Refused(why) => Checked::Refused(why),
-    }
+    read_bytes(&words[7..261], on, bytes)?;
+    check_tail(words, on, bytes)
 }
 
 // What the words are refused for; `bytes` are those of the protected words as they are read, unless the words up to the header are
 // refused.
-pub(crate) fn check(words: &[u16], bytes: &mut [u8]) -> Checked
+pub(crate) fn check(words: &[u16], bytes: &mut [u8]) -> Result<(), Refusal>
     requires { length bytes.old ≡ 254 }
     ensures { (result ≡ checked_of (read_refusal words.now)) × (bytes.new ≡ left_by (head_refusal words.now) (guard_bytes (correction_of words.now) (protected_of words.now)) bytes.old) }
 {
-    let head = head_refusal(words);
-    match head {
-        Checked::Passed => check_body(words, bytes),
-        Checked::Refused(why) => Checked::Refused(why),
-    }
+    check_head(words)?;
+    check_body(words, bytes)
 }
 
-// How many of 254 words changed against 254 bytes; of so many, counting them is never refused.
-fn fixed(words: &[u16], bytes: &[u8]) -> u8
-    requires { (length words.now ≡ 254) × (length bytes.now ≡ 254) }
-    ensures { result ≡ changes words.now (sound_words bytes.now) }
-{
-    let counted = repair::count_fixed(words, bytes);
-    match counted {
-        repair::Repaired::Fixed(many) => many,
-        repair::Repaired::Refused(_) => 0,
-    }
-}
-
-// What is told of accepted words whose bytes are read.
+// What is told of accepted words whose bytes are read; words are counted as fixed with correction on alone.
 pub(crate) fn packet(words: &[u16], bytes: &[u8]) -> Packet
     requires { (length words.now ≡ 262) × (length bytes.now ≡ 254) }
     ensures { result ≡ packet_by words.now bytes.now }
 {
+    let correction = words[6] / 128 % 2 == 1;
+    let fixed = if correction {
+        repair::count_fixed(&words[7..261], bytes).unwrap()
+    } else {
+        0
+    };
     let ci = (words[6] % 16) as u8;
-    if words[6] / 128 % 2 == 1 {
-        return Packet {
-            correction: true,
-            ci,
-            fixed: fixed(&words[7..261], bytes),
-        };
-    }
     Packet {
-        correction: false,
+        correction,
         ci,
-        fixed: 0,
+        fixed,
     }
 }

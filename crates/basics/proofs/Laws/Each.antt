@@ -11,6 +11,7 @@ use lib.Dec.{eqb}
 use lib.ListN.{length, get_or, drop, drop_of_length-le}
 use lib.Seq.{drop-cons}
 use Rattle.std.specs.Cmp.Lexicographic.{pointwise}
+use Rattle.std.specs.List.{list_all}
 use Rattle.basics.specs.Each.{all, same}
 use Rattle.basics.proofs.Laws.Test.{both_true, same_test}
 
@@ -54,6 +55,12 @@ module _ (f : ℕ → Bool) (l : List ℕ) where
   -- all of them
   pub passing-all : (i : ℕ) (ok : Bool) → Passing f l i ok → length l ≤ i → ok ≡ all f l
   passing-all i ok p h = sym (p.so_far ∙ ap (◌&&◌ ok) (all_end f l i h) ∙ and-true ok)
+
+-- the library's test of each entry
+pub list_all-all : (f : ℕ → Bool) (l : List ℕ) → list_all f l ≡ all f l
+unfolding all
+list_all-all f [] = refl
+list_all-all f (m ∷ l) = ap (◌&&◌ (f m)) (list_all-all f l)
 
 -- ---- equal lists
 

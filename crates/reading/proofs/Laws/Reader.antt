@@ -2,7 +2,7 @@
 -- packet.
 -- Assumes nothing.
 use mathlib.Core.Path.{◌≡◌, refl, sym, ap, ◌∙◌}
-use mathlib.Core.Bool.{Bool, true, false}
+use mathlib.Core.Bool.{Bool, true, false, cond}
 use mathlib.Core.List.{List, [], ◌∷◌, ◌++◌, append-nil}
 use Prim.Native.Nat.{ℕ, suc, ◌%◌}
 use native.Mathlib.Omega.{arith}
@@ -18,11 +18,9 @@ use Rattle.search.proofs.Laws.Marked.{marked-decides, marked-leaves}
 use Rattle.basics.specs.Each.{all}
 use Rattle.basics.proofs.Laws.Parts.{join, part-entries}
 use Rattle.reading.specs.declared.Packet.{Packet}
-use Rattle.refusal.specs.declared.Refusal.{Refusal}
 use Rattle.repair.specs.Protected.{repairable, repaired, rewritten}
 use Rattle.repair.specs.Repair.{counted_of}
-use Rattle.repair.specs.declared.Repaired.{Repaired}
-use Rattle.repair.specs.declared.Repaired.TheVariants.{Fixed, Refused}
+use Rattle.std.specs.Prelude.{Ok}
 use Rattle.repair.proofs.Laws.Changes.{counted_words}
 use Rattle.anc.specs.Words.{low_bytes, sound_words}
 use Rattle.reading.specs.Reading.{word, correction_of, index_of, protected_of, data_words, is_fill, protected_refusal}
@@ -87,20 +85,10 @@ summed-off ws bytes = sym (join ws 3 4 254 (take 254 (drop 7 ws)) refl)
 -- ---- what is told of a packet
 
 -- a count of so many is not refused
-pub fixed_told : (words bytes : List ℕ) (a : Repaired) (n : ℕ) → length words ≡ 254 → length bytes ≡ 254 → a ≡ counted_of words bytes → a ≡ Fixed n → n ≡ changes words (sound_words bytes)
-fixed_told words bytes a n h k e f = let g : Fixed n ≡ Fixed (changes words (sound_words bytes)) = sym f ∙ e ∙ sym (counted_words words bytes h k) in cc
+pub count-done : (words bytes : List ℕ) → length words ≡ 254 → length bytes ≡ 254 → counted_of words bytes ≡ Ok (changes words (sound_words bytes))
+count-done words bytes h k = sym (counted_words words bytes h k)
 
-pub fixed-never : (words bytes : List ℕ) (a : Repaired) (why : Refusal) → length words ≡ 254 → length bytes ≡ 254 → a ≡ counted_of words bytes → a ≡ Refused why → ⊥
-fixed-never words bytes a why h k e f =
-    let g : Refused why ≡ Fixed (changes words (sound_words bytes)) = sym f ∙ e ∙ sym (counted_words words bytes h k) in
-    let z : ◌≡◌ {A = ℕ} 0 1 = cc in
-    omega arith
-
-pub packet-on : (ws bytes : List ℕ) (n : ℕ) → correction_of ws ≡ true → n ≡ changes (protected_of ws) (sound_words bytes)
-    → ◌≡◌ {A = Packet} (record { correction = true; ci = word ws 6 % 16; fixed = n }) (packet_by ws bytes)
+pub packet-told : (ws bytes : List ℕ) (n : ℕ) → n ≡ cond (correction_of ws) (changes (protected_of ws) (sound_words bytes)) 0
+    → ◌≡◌ {A = Packet} (record { correction = correction_of ws; ci = word ws 6 % 16; fixed = n }) (packet_by ws bytes)
 unfolding packet_by index_of
-packet-on ws bytes n e h = rw (e, h)
-
-pub packet-off : (ws bytes : List ℕ) → correction_of ws ≡ false → ◌≡◌ {A = Packet} (record { correction = false; ci = word ws 6 % 16; fixed = 0 }) (packet_by ws bytes)
-unfolding packet_by index_of
-packet-off ws bytes e = rw e
+packet-told ws bytes n e = ap (λ (m : ℕ). record { correction = correction_of ws; ci = word ws 6 % 16; fixed = m }) e

@@ -6,6 +6,7 @@ use Prim.Native.Nat.{ℕ}
 use native.Mathlib.Omega.{arith}
 use lib.ListN.{length, take}
 use lib.Seq.{length-take-le}
+use Rattle.refusal.proofs.Laws.Chain.{handed-on}
 use Rattle.record.specs.Record.{record_of}
 use Rattle.reading.specs.Reading.{correction_of, protected_of, read_record}
 use Rattle.reading.specs.Answer.{guard_bytes}
@@ -21,37 +22,38 @@ module _ (ws bytes : List ℕ) (n : length bytes ≡ 254) (e : bytes ≡ guard_b
   unfolding read_record
   is_read = ap record_of (ap (take 248) e ∙ data-guard ws)
 
+pub returns-in_err-check : goal.returns-in_err-check
+returns-in_err-check c =
+    let out = c.args.out.now in
+    let check = c.check.ensures in
+    let told = c.in_err-check.was in
+    (handed-on _ c.from_residual.ensures.1 ∙ into-refused _ _ check.0 out _ told, left-as-it-was _ _ check.0 out _ told)
+
+pub returns-in_err-write_record : goal.returns-in_err-write_record
+returns-in_err-write_record c =
+    let ws = c.args.words.now in
+    let check = c.check.ensures in
+    let told = c.in_ok-check.was in
+    let bytes = answer-bytes ws _ check.0 _ _ told check.1 in
+    let room = answer-room ws _ check.0 _ told bytes in (
+      handed-on _ c.from_residual-in_err-write_record.ensures.1
+          ∙ into-full ws _ check.0 _ c.args.out.now (long ws _ room bytes) told _ c.write_record.ensures.0 _ c.in_err-write_record.was,
+      c.write_record.ensures.1 ∙ left-written ws _ check.0 _ c.args.out.now (long ws _ room bytes) told (is_read ws _ room bytes),
+    )
+
 pub packet-requires : goal.packet-requires
 packet-requires c =
-    let check = c.check-checked.ensures in
-    let told = c.in-Passed.is in
+    let check = c.check.ensures in
+    let told = c.in_ok-check.was in
     (answer-long _ _ check.0 told, answer-room _ _ check.0 _ told (answer-bytes _ _ check.0 _ _ told check.1))
 
-pub returns-in-Passed-wrote : goal.returns-in-Passed-wrote
-returns-in-Passed-wrote c =
+pub returns : goal.returns
+returns c =
     let ws = c.args.words.now in
-    let check = c.check-checked.ensures in
-    let told = c.in-Passed.is in
+    let check = c.check.ensures in
+    let told = c.in_ok-check.was in
     let bytes = answer-bytes ws _ check.0 _ _ told check.1 in
     let room = answer-room ws _ check.0 _ told bytes in (
-      into-accepted ws _ check.0 _ c.args.out.now (long ws _ room bytes) told _ c.write_record-wrote.ensures.0 _ _ c.in-Passed-wrote.is bytes c.packet.ensures,
-      c.write_record-wrote.ensures.1 ∙ left-written ws _ check.0 _ c.args.out.now (long ws _ room bytes) told (is_read ws _ room bytes),
+      into-accepted ws _ check.0 _ c.args.out.now (long ws _ room bytes) told _ c.write_record.ensures.0 _ _ c.in_ok-write_record.was bytes c.packet.ensures,
+      c.write_record.ensures.1 ∙ left-written ws _ check.0 _ c.args.out.now (long ws _ room bytes) told (is_read ws _ room bytes),
     )
-
-pub returns-in-Refused-wrote : goal.returns-in-Refused-wrote
-returns-in-Refused-wrote c =
-    let ws = c.args.words.now in
-    let check = c.check-checked.ensures in
-    let told = c.in-Passed.is in
-    let bytes = answer-bytes ws _ check.0 _ _ told check.1 in
-    let room = answer-room ws _ check.0 _ told bytes in (
-      into-full ws _ check.0 _ c.args.out.now (long ws _ room bytes) told _ c.write_record-wrote.ensures.0 _ c.in-Refused-wrote.is,
-      c.write_record-wrote.ensures.1 ∙ left-written ws _ check.0 _ c.args.out.now (long ws _ room bytes) told (is_read ws _ room bytes),
-    )
-
-pub returns-in-Refused : goal.returns-in-Refused
-returns-in-Refused c =
-    let out = c.args.out.now in
-    let check = c.check-checked.ensures in
-    let told = c.in-Refused.is in
-    (into-refused _ _ check.0 out _ told, left-as-it-was _ _ check.0 out _ told)

@@ -130,6 +130,10 @@ module _ {X : Type 0} (o : Option Refusal) (new old : X) where
   pub left-by : Ok tt ≡ checked_of o → new ≡ left_by o new old
   left-by e = rw (done-is o e) refl
 
+-- two values that are one answer
+pub same-ok : {A : Type 0} {x y : A} → ◌≡◌ {A = Result A Refusal} (Ok x) (Ok y) → x ≡ y
+same-ok e = cc
+
 -- ---- a test that a call answered
 
 pub passes : {r s : Bool} → r ≡ s → not r ≡ false → s ≡ true
@@ -226,3 +230,8 @@ pub stopped-at : {a : Checked} {chain : Option Refusal → Option Refusal} {w : 
     → Err w ≡ checked_of (chain (next o rest))
 stopped-at {chain} {w} o rest c e h =
     let that = refused-is o w (sym h ∙ e) in ap checked_of (c.behind (some w) ∙ ap chain (sym (ap (λ (p : Option Refusal). next p rest) that)))
+
+-- the checks so far passed, and one more decides
+pub last-check : {a : Checked} {chain : Option Refusal → Option Refusal} {ok test : Bool} {given why : Refusal} → Chained (Ok tt) chain → a ≡ checked_of (require ok given passed)
+    → ok ≡ test → given ≡ why → a ≡ checked_of (chain (require test why passed))
+last-check {why} c e p g = chained-all (chained_more why c (rw (← g) e) p)

@@ -1,7 +1,7 @@
 -- The tests of a list as the library computes them, what the tests of a byte come to, and the bits that a mask leaves.
 -- Assumes nothing.
 use mathlib.Core.Path.{◌≡◌, refl, sym, ap, ap₂, ◌∙◌}
-use mathlib.Core.Bool.{Bool, true, false, cond, ◌&&◌, ◌||◌, and-true}
+use mathlib.Core.Bool.{Bool, true, false, cond, ◌||◌, and-true}
 use mathlib.Core.List.{List, [], ◌∷◌}
 use Prim.Native.Nat.{ℕ, ◌+◌, ◌<◌}
 use native.Mathlib.Omega.{arith}
@@ -11,17 +11,12 @@ use lib.Dec.{eqb, T}
 use lib.ListN.{length, get_or, take, drop}
 use lib.Seq.{drop-cons, take_all}
 use Rattle.std.proofs.Math.Facts.{eqb_yes}
-use Rattle.std.specs.List.{list_all, list_any}
+use Rattle.std.specs.List.{list_any}
 use Rattle.basics.specs.Each.{all}
 use Rattle.basics.proofs.Laws.Test.{same_test, below, below_at}
 use Rattle.rules.specs.Rules.{one_of, only_bit, low_half, sound_byte, sound_rule}
 
--- ---- a test of each entry and of any, as the library computes them
-
-pub list_all-all : (f : ℕ → Bool) (l : List ℕ) → list_all f l ≡ all f l
-unfolding all
-list_all-all f [] = refl
-list_all-all f (m ∷ l) = ap (◌&&◌ (f m)) (list_all-all f l)
+-- ---- a test of any entry, as the library computes it
 
 flip : (m n : ℕ) → eqb m n ≡ eqb n m
 flip m n = same_test (eqb m n) (eqb n m) (λ e. eq-eqb n m (sym (eqb-true m n e))) (λ e. eq-eqb m n (sym (eqb-true n m e)))

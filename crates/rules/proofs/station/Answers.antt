@@ -5,7 +5,7 @@ use Rattle.std.proofs.Common.{rules, tests}
 use Rattle.std.proofs.lemmas.Iterator.{YieldsList-from_slice}
 use Rattle.std.proofs.lemmas.Iterator.Search.{all_from_yields_List}
 use Rattle.rules.specs.Rules.{station_byte, station_rule}
-use Rattle.rules.proofs.Laws.Rules.{list_all-all}
+use Rattle.basics.proofs.Laws.Each.{list_all-all}
 use Rattle.rules.proofs.station.Goals as goal
 
 pub returns : goal.returns

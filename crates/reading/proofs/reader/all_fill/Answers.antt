@@ -1,17 +1,15 @@
 -- `reading::reader::all_fill` meets its contract.
 -- Assumes nothing.
-use mathlib.Core.Path.{refl}
-use native.Mathlib.Omega.{arith}
-use Rattle.basics.proofs.Laws.Each.{passing-more, passing-all}
+use mathlib.Core.Path.{◌∙◌}
+use Rattle.std.proofs.Common.{rules, tests}
+use Rattle.std.proofs.lemmas.Iterator.{YieldsList-from_slice}
+use Rattle.std.proofs.lemmas.Iterator.Search.{all_from_yields_List}
+use Rattle.basics.proofs.Laws.Each.{list_all-all}
 use Rattle.reading.specs.Reading.{is_fill}
 use Rattle.reading.proofs.reader.all_fill.Goals as goal
 
-pub loop-i-preserved : goal.loop-i-preserved
-loop-i-preserved c =
-    let l = c.loop-i in
-    passing-more is_fill c.args.words.now l.i l.ok _ l.invariant (omega arith) refl
-
 pub returns : goal.returns
 returns c =
-    let l = c.loop-i in
-    passing-all is_fill c.args.words.now l.i l.ok l.invariant (omega arith)
+    let words = c.args.words.now in
+    all_from_yields_List is_fill _ _ _ c.all.ensures.ran (YieldsList-from_slice words cc) (λ x b q k. search (rules, tests))
+    ∙ list_all-all is_fill words
