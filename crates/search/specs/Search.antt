@@ -1,20 +1,13 @@
 -- What the private functions of the search promise. A reader of the public contracts may pass over this file.
 -- Assumes nothing.
-use Rattle.std.specs.Prelude.{◌≡◌, Bool, true, false, List, [], ◌∷◌, ℕ, suc, ◌+◌, ◌-◌, ◌<◌, ◌≤◌, length, get_or, set}
+use Rattle.std.specs.Prelude.{◌≡◌, Bool, true, false, List, [], ◌∷◌, ℕ, suc, ◌+◌, ◌-◌, ◌<◌, length, get_or, set, Option, IfSome, IsSomeAnd}
 use Rattle.gf256.specs.Field.{◌⊕◌, ◌⊗◌, pow, over}
-use Rattle.gf256.specs.Tables.{LogTable}
-use Rattle.gf256.specs.Lent.{Wheel}
 use Rattle.gf256.specs.PowerSum.{Term, power_sum}
 use Rattle.rs.specs.Polynomial.{value_at}
 use Rattle.rs.specs.Codeword.{left_of, Codeword}
-use Rattle.search.specs.declared.solver.Errors.{Errors}
+use Rattle.search.specs.declared.errors.Error.{Error}
 use Rattle.search.specs.declared.solver.Locator.{Locator}
-use Rattle.search.specs.declared.solver.Outcome.{Outcome}
-
--- the lent tables are right
-pub record Tables (w l : List ℕ) : Type 0 where
-  pub wheel : Wheel w
-  pub logs : LogTable l
+use Rattle.search.specs.declared.errors.Place.{Place}
 
 -- the value y at the place of exponent k
 abbrev pub term : ℕ → ℕ → Term
@@ -66,55 +59,65 @@ locator_three s =
 abbrev pub Root : Locator → ℕ → Type 0
 Root l k = cubic l.a l.b l.c (pow 2 k) ≡ 0
 
--- r is the greatest exponent of a place that is a root of the locator, where there is one
-pub record TopRoot (l : Locator) (r : ℕ) : Type 0 where
-  pub top : (k : ℕ) → k < 254 → Root l k → ((j : ℕ) → k < j → j < 254 → Root l j → ⊥) → r ≡ k
+-- the greatest place that is a root of the locator, where there is one
+pub record TopRoot (l : Locator) (o : Option Place) : Type 0 where
+  pub top : (k : ℕ) → k < 254 → Root l k → ((j : ℕ) → k < j → j < 254 → Root l j → ⊥) → IsSomeAnd o (λ p. p.exponent ≡ k)
 
-abbrev pub errors_of : ℕ → ℕ → ℕ → ℕ → ℕ → ℕ → Errors
-errors_of k y m z n w = record { k0 = k; y0 = y; k1 = m; y1 = z; k2 = n; y2 = w }
+-- the place that is the element x, where there is one
+pub record IsPlace (x : ℕ) (o : Option Place) : Type 0 where
+  pub at : (k : ℕ) → k < 254 → x ≡ pow 2 k → IsSomeAnd o (λ p. p.exponent ≡ k)
 
--- the errors as terms
-abbrev pub terms_of : Errors → List Term
-terms_of e = term e.k0 e.y0 ∷ term e.k1 e.y1 ∷ term e.k2 e.y2 ∷ []
+-- the exponents of the places of errors, and the values there
+abbrev pub error_places : List Error → List ℕ
+error_places [] = []
+error_places (e ∷ es) = e.place.exponent ∷ error_places es
 
--- each place is one of the 254
-pub record Placed (e : Errors) : Type 0 where
-  pub first : e.k0 < 254
-  pub second : e.k1 < 254
-  pub third : e.k2 < 254
+abbrev pub error_values : List Error → List ℕ
+error_values [] = []
+error_values (e ∷ es) = e.value ∷ error_values es
+
+-- values at places, as terms
+abbrev pub terms_at : List ℕ → List ℕ → List Term
+terms_at [] v = []
+terms_at (k ∷ ks) [] = []
+terms_at (k ∷ ks) (y ∷ v) = term k y ∷ terms_at ks v
+
+-- errors as terms
+abbrev pub terms_of : List Error → List Term
+terms_of es = terms_at (error_places es) (error_values es)
+
+-- errors at these places with these values
+pub record Are (ks ys : List ℕ) (es : List Error) : Type 0 where
+  pub places : error_places es ≡ ks
+  pub values : error_values es ≡ ys
 
 -- the lone error that the first two sums allow
-pub record FindsOne (s : List ℕ) (e : Errors) : Type 0 where
-  pub placed : Placed e
-  pub finds : (k y : ℕ) → k < 254 → 0 < y → y < 256 → Explains 2 (term k y ∷ []) s → e ≡ errors_of k y 0 0 0 0
+pub record FindsOne (s : List ℕ) (o : Option (List Error)) : Type 0 where
+  pub finds : (k y : ℕ) → k < 254 → 0 < y → y < 256 → Explains 2 (term k y ∷ []) s → IsSomeAnd o (Are (k ∷ []) (y ∷ []))
 
 -- the two errors that n sums allow, the first place first
-pub record FindsTwo (n : ℕ) (s : List ℕ) (e : Errors) : Type 0 where
-  pub placed : Placed e
+pub record FindsTwo (n : ℕ) (s : List ℕ) (o : Option (List Error)) : Type 0 where
   pub finds : (k y m z : ℕ) → k < 254 → m < k → 0 < y → y < 256 → 0 < z → z < 256 → Explains n (term k y ∷ term m z ∷ []) s
-      → e ≡ errors_of k y m z 0 0
+      → IsSomeAnd o (Are (k ∷ m ∷ []) (y ∷ z ∷ []))
 
 -- the three errors that six sums allow, the first place first
-pub record FindsThree (s : List ℕ) (e : Errors) : Type 0 where
-  pub placed : Placed e
+pub record FindsThree (s : List ℕ) (o : Option (List Error)) : Type 0 where
   pub finds : (k y m z i w : ℕ) → k < 254 → m < k → i < m → 0 < y → y < 256 → 0 < z → z < 256 → 0 < w → w < 256
-      → Explains 6 (term k y ∷ term m z ∷ term i w ∷ []) s → e ≡ errors_of k y m z i w
+      → Explains 6 (term k y ∷ term m z ∷ term i w ∷ []) s → IsSomeAnd o (Are (k ∷ m ∷ i ∷ []) (y ∷ z ∷ w ∷ []))
+
+-- to each sum, its part of the value y at x has come in
+pub record Adds (x y : ℕ) (s t : List ℕ) : Type 0 where
+  pub at : (j : ℕ) → j < 6 → get_or t j 0 ≡ get_or s j 0 ⊕ y ⊗ pow x j
 
 -- whether the errors have the six sums
-pub record Held (s : List ℕ) (e : Errors) (r : Bool) : Type 0 where
-  pub sound : r ≡ true → Explains 6 (terms_of e) s
-  pub complete : Explains 6 (terms_of e) s → r ≡ true
+pub record Held (s : List ℕ) (es : List Error) (r : Bool) : Type 0 where
+  pub sound : r ≡ true → Explains 6 (terms_of es) s
+  pub complete : Explains 6 (terms_of es) s → r ≡ true
 
 -- errors at falling exponents below n, none of them 0
 abbrev pub Falling : ℕ → List Term → Type 0
 Falling n [] = Unit {0}
 Falling n (e ∷ es) = (k : ℕ) × (k < n) × (e.X ≡ pow 2 k) × (0 < e.Y) × (e.Y < 256) × Falling k es
-
--- what was found has the six sums; where nothing was, no one to three errors have
-pub record Solved (s : List ℕ) (o : Outcome) : Type 0 where
-  pub placed : Placed o.errors
-  pub sound : o.found ≡ true → Explains 6 (terms_of o.errors) s
-  pub complete : o.found ≡ false → (e : Term) (es : List Term) → length es ≤ 2 → Falling 254 (e ∷ es) → Explains 6 (e ∷ es) s → ⊥
 
 -- the six sums of a list: its values at the powers 0 to 5 of 2
 unfoldable pub sums_of : List ℕ → List ℕ
@@ -123,6 +126,22 @@ sums_of l = value_at (pow 2 0) l ∷ value_at (pow 2 1) l ∷ value_at (pow 2 2)
 -- y comes in at the place of exponent k
 abbrev pub patched : List ℕ → ℕ → ℕ → List ℕ
 patched l k y = set l (253 - k) (get_or l (253 - k) 0 ⊕ y)
+
+-- values that come in at places, one after the other
+unfoldable pub patched_all : List ℕ → List ℕ → List ℕ → List ℕ
+patched_all [] v l = l
+patched_all (k ∷ ks) [] l = l
+patched_all (k ∷ ks) (y ∷ v) l = patched_all ks v (patched l k y)
+
+-- errors that come in
+abbrev pub patched_by : List Error → List ℕ → List ℕ
+patched_by es l = patched_all (error_places es) (error_values es) l
+
+-- n errors that were found come in where they have the six sums, and else the block stays as it was
+pub record Mends (n : ℕ) (s : List ℕ) (o : Option (List Error)) (before : List ℕ) (r : Bool) (after : List ℕ) : Type 0 where
+  pub right : r ≡ true → IsSomeAnd o (λ es. (length es ≡ n) × Explains 6 (terms_of es) s × (after ≡ patched_by es before))
+  pub wrong : r ≡ false → IfSome o (λ es. Explains 6 (terms_of es) s → ⊥)
+  pub kept : r ≡ false → after ≡ before
 
 -- 254 bytes that are no codeword, and what the division leaves of them
 pub record Damaged (block rest : List ℕ) : Type 0 where

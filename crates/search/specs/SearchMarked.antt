@@ -5,10 +5,10 @@ use Rattle.std.proofs.Math.Option.{none, some}
 use Rattle.anc.specs.Word.{is_sound}
 use Rattle.gf256.specs.PowerSum.{Apart, ByteTerms}
 use Rattle.rs.specs.Marked.{marks_in, decode_marked}
-use Rattle.search.specs.Search.{Explains, patched}
-use Rattle.search.specs.Values.{AllPlaced, terms_at}
+use Rattle.search.specs.Search.{Explains, error_places, error_values, terms_at, terms_of}
+use Rattle.search.specs.Values.{exponents}
 use Rattle.search.specs.declared.marked.Marks.{Marks}
-use Rattle.search.specs.declared.marked.Found.{Found}
+use Rattle.search.specs.declared.errors.Error.{Error}
 
 -- ---- the marked places
 
@@ -28,18 +28,16 @@ places_of (false ∷ marks) = places_of marks
 
 -- the places that are in hand
 abbrev pub places_in : Marks → List ℕ
-places_in m = take m.count m.places
+places_in m = take m.count (exponents m.places)
 
 -- so many marks, and the places of at most six
 pub record MarksOf (marks : List Bool) (m : Marks) : Type 0 where
   pub count : m.count ≡ marks_in marks
-  pub placed : AllPlaced m.places
   pub at : m.count ≤ 6 → places_in m ≡ places_of marks
 
 -- the same places and k
 pub record OneMore (m : Marks) (k : ℕ) (r : Marks) : Type 0 where
   pub count : r.count ≡ suc m.count
-  pub placed : AllPlaced r.places
   pub at : places_in r ≡ places_in m ++ (k ∷ [])
 
 -- ---- errors at places
@@ -74,28 +72,19 @@ pub record Widened (m r : Marks) : Type 0 where
 
 -- the places of m, and those of the few errors elsewhere that the sums allow
 pub record Locates (s : List ℕ) (m r : Marks) : Type 0 where
-  pub placed : AllPlaced r.places
   pub widened : Widened m r
   pub finds : (v ks ys : List ℕ) → Fits (places_in m) s v ks ys → places_in r ≡ places_in m ++ ks
 
--- values at the places of m and at few enough others; where they were not found, none have the six sums
-pub record SolvedMarked (s : List ℕ) (m : Marks) (o : Found) : Type 0 where
-  pub placed : AllPlaced o.places
+-- errors at the places of m and at few enough others: where any there have the six sums, these do
+pub record SolvedMarked (s : List ℕ) (m : Marks) (es : List Error) : Type 0 where
   pub all : Marks
   pub widened : Widened m all
-  pub same : o.places ≡ all.places
-  pub long : length o.values ≡ 6
-  pub behind : (i : ℕ) → all.count ≤ i → get_or o.values i 0 ≡ 0
-  pub sound : o.found ≡ true → Explains 6 (terms_at o.places o.values) s
-  pub complete : o.found ≡ false → (v ks ys : List ℕ) → Fits (places_in m) s v ks ys → ⊥
+  pub places : error_places es ≡ exponents all.places
+  pub long : length (error_values es) ≡ 6
+  pub behind : (i : ℕ) → all.count ≤ i → get_or (error_values es) i 0 ≡ 0
+  pub finds : (v ks ys : List ℕ) → Fits (places_in m) s v ks ys → Explains 6 (terms_of es) s
 
 -- ---- the block
-
--- values that come in at places, one after the other
-unfoldable pub patched_all : List ℕ → List ℕ → List ℕ → List ℕ
-patched_all [] v l = l
-patched_all (k ∷ ks) [] l = l
-patched_all (k ∷ ks) (y ∷ v) l = patched_all ks v (patched l k y)
 
 -- the first rule, for any 254 marks whose places these are: what it says of a block, and what it leaves of it
 pub record FirstRule (m : Marks) (before : List ℕ) (r : Bool) (after : List ℕ) : Type 0 where

@@ -2,21 +2,21 @@
 // that carried them first the codeword with 2e + f at most 6, of which the words that are not sound are the f. It refuses exactly when there is none.
 #![tactic(auto)]
 
+mod errors;
 mod marked;
 mod solver;
 mod values;
 
 ghost use Rattle.std.specs.Prelude.{◌≡◌, ◌<◌, ◌≤◌, length};
-ghost use Rattle.rs.specs.Polynomial.{zeros};
-ghost use Rattle.basics.specs.Each.{same};
 ghost use Rattle.rs.specs.Decode.{repairable, repaired, decode_refusal};
 ghost use Rattle.refusal.specs.Checked.{checked_of};
 ghost use Rattle.rs.specs.Marked.{repairable_marked, repaired_marked};
 ghost use Rattle.search.specs.Marked.{confessed, marked_refusal, marked_leaves};
-ghost use Rattle.search.specs.Values.{AllPlaced};
-ghost use Rattle.search.specs.SearchMarked.{patched_all, FirstRule};
-ghost use Rattle.search.specs.Search.{patched, Damaged};
+ghost use Rattle.search.specs.SearchMarked.{FirstRule};
+ghost use Rattle.search.specs.Search.{patched_by, Mends, Damaged};
 
+use errors::Error;
+use gf256::Tables;
 use refusal::{Reason, Refusal};
 
 // Repairs 254 delivered bytes in place: they become the codeword that differs from what was delivered in at most three bytes. A refusal,
@@ -49,62 +49,62 @@ pub fn repair_marked(block: &mut [u8], words: &[u16]) -> Result<(), Refusal>
     )
 }
 
-// Repairs a block that is no codeword, by what the division left of it.
+// Adds errors to a block.
+fn patch(block: &mut [u8], errors: &[Error])
+    requires { length block.old ≡ 254 }
+    ensures { block.new ≡ patched_by errors.now block.old }
+{
+    for e in errors {
+        let i = 253 - e.place.exponent;
+        block[i] = gf256::sum(block[i], e.value);
+    }
+}
+
+// Repairs a block by errors, where they are found and have its six sums.
+fn mend_by<const N: usize>(
+    tables: &Tables,
+    block: &mut [u8],
+    s: [u8; 6],
+    errors: Option<[Error; N]>,
+) -> bool
+    requires { length block.old ≡ 254 }
+    ensures { Mends N s errors.entry block.old result block.new }
+{
+    let Some(errors) = errors else {
+        return false;
+    };
+    if !solver::explained(tables, s, &errors) {
+        return false;
+    }
+    patch(block, &errors);
+    true
+}
+
+// Repairs a block that is no codeword, by what the division left of it: by one error, by two or by three.
 fn mend(block: &mut [u8], rest: [u8; 6]) -> bool
     requires { Damaged block.old rest }
     ensures { (result ≡ repairable block.old) × (block.new ≡ repaired block.old) }
 {
-    let wheel = gf256::wheel();
-    let logs = gf256::logs();
-    let outcome = solver::find_errors(&wheel, &logs, solver::sums(&wheel, &logs, rest));
-    let found = outcome.found;
-    if !found {
-        return false;
+    let tables = Tables::new();
+    let s = solver::sums(&tables, rest);
+    if mend_by(&tables, block, s, solver::one_error(&tables, s)) {
+        return true;
     }
-    let e = outcome.errors;
-    patch(block, e.k0, e.y0);
-    patch(block, e.k1, e.y1);
-    patch(block, e.k2, e.y2);
-    true
-}
-
-// Adds a value at the place of exponent k.
-fn patch(block: &mut [u8], k: usize, y: u8)
-    requires { (length block.old ≡ 254) × (k < 254) }
-    ensures { block.new ≡ patched block.old k y }
-{
-    let i = 253 - k;
-    block[i] = gf256::sum(block[i], y);
-}
-
-// Adds six values at their places.
-fn patch_all(block: &mut [u8], places: [usize; 6], values: [u8; 6])
-    requires { (length block.old ≡ 254) × AllPlaced places }
-    ensures { block.new ≡ patched_all places values block.old }
-{
-    let mut i = 0;
-    while i < 6 {
-        patch(block, places[i], values[i]);
-        i += 1;
+    if mend_by(&tables, block, s, solver::two_errors(&tables, s, 6)) {
+        return true;
     }
+    mend_by(&tables, block, s, solver::three_errors(&tables, s))
 }
 
 // Repairs a block that is no codeword by its marked places, one to six of them, where a codeword has 2e + f at most 6.
 fn mend_marks(block: &mut [u8], rest: [u8; 6], marks: marked::Marks) -> bool
-    requires { Damaged block.old rest × AllPlaced marks.places × (0 < marks.count) × (marks.count ≤ 6) }
+    requires { Damaged block.old rest × (0 < marks.count) × (marks.count ≤ 6) }
     ensures { FirstRule marks block.old result block.new }
 {
-    let wheel = gf256::wheel();
-    let logs = gf256::logs();
-    let outcome = marked::find_marked(&wheel, &logs, solver::sums(&wheel, &logs, rest), marks);
-    let found = outcome.found;
-    if !found {
-        return false;
-    }
-    let places = outcome.places;
-    let values = outcome.values;
-    patch_all(block, places, values);
-    true
+    let tables = Tables::new();
+    let s = solver::sums(&tables, rest);
+    let errors = marked::find_marked(&tables, s, marks);
+    mend_by(&tables, block, s, Some(errors))
 }
 
 // Repairs a block that is no codeword, by what the division left of it and by the places that the words mark: with one to six of them first by these.

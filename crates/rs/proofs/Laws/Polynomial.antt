@@ -10,7 +10,7 @@ use mathlib.Core.Logic.{⊎_elim}
 use native.Mathlib.Omega.{arith}
 use lib.Dec.{lit<}
 use lib.ListN.{length, get_or, set, take, drop, length-append, length-replicate, length-set, drop_of_length-le}
-use lib.Seq.{take_all, get_or-set_same, get_or-set_other}
+use lib.Seq.{take-suc, take_all, get_or-set_same, get_or-set_other}
 use Rattle.basics.proofs.Laws.Parts.{all-entries}
 use Rattle.gf256.specs.Field.{◌⊕◌, ◌⊗◌, pow}
 use Rattle.gf256.proofs.Laws.Sum.{⊕-assoc, ⊕-comm, ⊕-self, ⊕-zero-l, ⊕-zero-r, ⊕-four, ⊕-lt}
@@ -143,6 +143,16 @@ unfolding value_at pow
 value-snoc x l d h =
     value-append x l (d ∷ [])
     ∙ ap₂ ◌⊕◌ (sym (⊗-assoc (value_at x l) x 1) ∙ ⊗-one-r _ (⊗-lt _ _)) (⊕-zero-r _ ∙ ⊗-one-r d h)
+
+-- so the value at x is that of the first coefficients, one more at a time
+pub value-none : (x : ℕ) (l : List ℕ) → 0 ≡ value_at x (take 0 l)
+unfolding value_at
+value-none x l = refl
+
+pub value-more : (x : ℕ) (l : List ℕ) (v i : ℕ) → i < length l → get_or l i 0 < 256 → v ≡ value_at x (take i l) → v ⊗ x ⊕ get_or l i 0 ≡ value_at x (take (i + 1) l)
+value-more x l v i h b e =
+    ap (λ (q : ℕ). q ⊗ x ⊕ get_or l i 0) e ∙ sym (value-snoc x (take i l) (get_or l i 0) b)
+    ∙ ap (value_at x) (sym (take-suc l i 0 h) ∙ ap (λ (n : ℕ). take n l) (sym (add-one i)))
 
 head-ring : (d y p z : ℕ) → (d ⊕ y) ⊗ p ⊕ z ≡ d ⊗ p ⊕ z ⊕ y ⊗ p
 head-ring d y p z = simp ring

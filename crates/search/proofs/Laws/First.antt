@@ -2,7 +2,7 @@
 -- such codeword. And what both rules say and leave, by what each of them did.
 -- Assumes nothing.
 use mathlib.Core.Path.{◌≡◌, refl, sym, ap, ◌∙◌, subst}
-use mathlib.Core.Bool.{Bool, true, false}
+use mathlib.Core.Bool.{Bool, true}
 use mathlib.Core.List.{List, ◌++◌}
 use mathlib.Core.Option.{Option, none, some, get_or}
 use Prim.Native.Nat.{ℕ, ◌≤◌, ◌<◌}
@@ -12,52 +12,53 @@ use Rattle.gf256.specs.Field.{◌⊕◌, pow}
 use Rattle.gf256.specs.PowerSum.{power_sum}
 use Rattle.gf256.proofs.Laws.Sum.{⊕-self}
 use Rattle.basics.specs.Below.{Bytes}
-use Rattle.basics.proofs.Laws.Below.{at-below}
 use Rattle.rs.specs.Polynomial.{value_at, ◌⊞◌}
 use Rattle.rs.specs.Decode.{given, decode, repairable, repaired}
 use Rattle.rs.specs.Marked.{marks_in, errors, decode_marked, decode_both, repairable_marked, repaired_marked}
 use Rattle.rs.proofs.Laws.Codeword.{vanishing-codeword}
 use Rattle.rs.proofs.Laws.Marked.{marked-sound, marked-complete, both-complete, both-second}
-use Rattle.search.specs.Search.{sums_of, Damaged}
-use Rattle.search.specs.Values.{terms_at}
-use Rattle.search.specs.SearchMarked.{MarksOf, Fits, SolvedMarked, patched_all}
+use Rattle.search.specs.Search.{Explains, error_places, error_values, terms_of, patched_by, sums_of, Damaged}
+use Rattle.search.specs.SearchMarked.{MarksOf, Fits, SolvedMarked}
+use Rattle.search.specs.declared.errors.Error.{Error}
 use Rattle.search.specs.declared.marked.Marks.{Marks}
-use Rattle.search.specs.declared.marked.Found.{Found}
+use Rattle.search.proofs.Laws.Errors.{places-long, values-long, places-placed}
 use Rattle.search.proofs.Laws.Repair.{sum-value, lack-value}
 use Rattle.search.proofs.Laws.Split.{values_in, other_places, other_values, lack-fits}
 use Rattle.search.proofs.Laws.Patched.{patched-all-length, patched-all-value, few-errors}
 
 -- ---- the first rule
 
-module _ (block rest s : List ℕ) (hb : Bytes block) (D : Damaged block rest) (es : s ≡ sums_of rest) (m : Marks) (few : m.count ≤ 6) (o : Found)
-    (S : SolvedMarked s m o) (marks : List Bool) (em : length marks ≡ 254) (M : MarksOf marks m) where
+module _ (block rest s : List ℕ) (hb : Bytes block) (D : Damaged block rest) (es : s ≡ sums_of rest) (m : Marks) (few : m.count ≤ 6) (long : length m.places ≡ 6)
+    (fs : List Error) (S : SolvedMarked s m fs) (n : length fs ≡ 6) (marks : List Bool) (em : length marks ≡ 254) (M : MarksOf marks m) where
   -- what was found leads to the codeword
-  pub found-marked : o.found ≡ true → (after : List ℕ) → Bytes after
-      → after ≡ patched_all o.places o.values block → decode_marked marks block ≡ some after
-  found-marked t after b e =
+  pub found-marked : Explains 6 (terms_of fs) s → (after : List ℕ) → Bytes after → after ≡ patched_by fs block → decode_marked marks block ≡ some after
+  found-marked E after b e =
       let W = S.widened in
-      let alike : length o.values ≡ length o.places = S.long ∙ sym S.placed.long in
-      let long : length after ≡ 254 = ap length e ∙ patched-all-length o.places o.values block ∙ D.long in
+      let ks : List ℕ = error_places fs in
+      let v : List ℕ = error_values fs in
+      let alike : length v ≡ length ks = values-long fs ∙ sym (places-long fs) in
+      let six : length ks ≡ 6 = places-long fs ∙ n in
+      let whole : length after ≡ 254 = ap length e ∙ patched-all-length ks v block ∙ D.long in
       marked-complete marks block after
       (record {
-        word = vanishing-codeword after long b (λ j h.
+        word = vanishing-codeword after whole b (λ j h.
             ap (value_at (pow 2 j)) e
-            ∙ patched-all-value o.places o.values block j D.long (at-below 254 o.places S.placed.at) alike
-            ∙ ap (λ (x : ℕ). x ⊕ power_sum (terms_at o.places o.values) j) (sym (sum-value block rest s hb D es j h) ∙ (S.sound t).at j h) ∙ ⊕-self _);
-        long = long ∙ sym D.long;
+            ∙ patched-all-value ks v block j D.long (places-placed fs) alike
+            ∙ ap (λ (x : ℕ). x ⊕ power_sum (terms_of fs) j) (sym (sum-value block rest s hb D es j h) ∙ E.at j h) ∙ ⊕-self _);
+        long = whole ∙ sym D.long;
         near =
             omega (
               arith,
               W.few,
               M.count,
               ap (λ (x : List ℕ). errors marks x block) e,
-              few-errors marks S.all.count o.places W.others o.values block em
-                  (omega (arith, W.count, W.few, few, S.placed.long)) alike S.behind (ap (take S.all.count) S.same ∙ W.at ∙ ap (λ (l : List ℕ). l ++ W.others) (M.at few)),
+              few-errors marks S.all.count ks W.others v block em
+                  (omega (arith, W.count, W.few, few, six)) alike S.behind (ap (take S.all.count) S.places ∙ W.at ∙ ap (λ (l : List ℕ). l ++ W.others) (M.at few)),
             );
       })
 
-  -- where nothing was, there is none
-  pub lost-marked : o.found ≡ false → decode_marked marks block ≡ none
+  -- where they do not have the sums, there is none
+  pub lost-marked : (Explains 6 (terms_of fs) s → ⊥) → decode_marked marks block ≡ none
   lost-marked q = go (decode_marked marks block) refl
     where
       go : (a : Option (List ℕ)) → decode_marked marks block ≡ a → decode_marked marks block ≡ none
@@ -65,9 +66,9 @@ module _ (block rest s : List ℕ) (hb : Bytes block) (D : Damaged block rest) (
       go (some c) e =
           let W = marked-sound marks block c e in
           let d : List ℕ = c ⊞ block in
-          absurd (S.complete q (values_in marks d) (other_places marks d) (other_values marks d)
+          absurd (q (S.finds (values_in marks d) (other_places marks d) (other_values marks d)
           (subst (λ (ps : List ℕ). Fits ps s (values_in marks d) (other_places marks d) (other_values marks d)) (sym (M.at few))
-          (lack-fits marks c block s em W.word.long D.long W.word.bytes hb (lack-value block rest s hb D es c W.word W.long) W.near)))
+          (lack-fits marks c block s em W.word.long D.long W.word.bytes hb (lack-value block rest s hb D es c W.word W.long) W.near))))
 
 -- ---- both rules
 

@@ -8,12 +8,14 @@ use native.Mathlib.Nat.{not-suc-le-zero, le_of_suc-le-suc}
 use native.Mathlib.Numerals.{add-one}
 use native.Mathlib.Omega.{arith}
 use borrow.Author.Tests.{eq-eqb, ne_eqb}
-use lib.Dec.{eqb, lit<}
+use lib.Dec.{eqb}
 use lib.ListN.{length, get_or, set, take, drop, length-set, length-drop, drop_of_length-le}
 use lib.Seq.{drop-cons, take-suc-set}
 use Rattle.anc.specs.Word.{is_sound}
 use Rattle.rs.specs.Marked.{marks_in}
-use Rattle.search.specs.Values.{AllPlaced}
+use Rattle.search.specs.Values.{exponents}
+use Rattle.search.specs.declared.errors.Place.{Place}
+use Rattle.search.proofs.Laws.Values.{exponents-long, exponents-set}
 use Rattle.search.specs.Marked.{confessed}
 use Rattle.search.specs.SearchMarked.{flag_of, marks_by, places_of, MarksOf}
 
@@ -50,41 +52,18 @@ marks-length (f ∷ flags) = ap suc (marks-length flags)
 
 -- ---- the places, collected
 
--- a place is put among the six
-pub put-placed : (places : List ℕ) (i k : ℕ) → AllPlaced places → k < 254 → AllPlaced (set places i k)
-put-placed places i k P h = record { long = length-set places i k ∙ P.long; at = λ j. put places i j P.at }
-  where
-    put : (l : List ℕ) (i j : ℕ) → ((n : ℕ) → get_or l n 0 < 254) → get_or (set l i k) j 0 < 254
-    put [] i j at = at j
-    put (x ∷ l) zero zero at = h
-    put (x ∷ l) zero (suc j) at = at (suc j)
-    put (x ∷ l) (suc i) zero at = at 0
-    put (x ∷ l) (suc i) (suc j) at = put l i j (λ n. at (suc n))
-
-pub none-placed : AllPlaced (0 ∷ 0 ∷ 0 ∷ 0 ∷ 0 ∷ 0 ∷ [])
-none-placed = record { long = refl; at = at }
-  where
-    at : (i : ℕ) → get_or {A = ℕ} (0 ∷ 0 ∷ 0 ∷ 0 ∷ 0 ∷ 0 ∷ []) i 0 < 254
-    at zero = lit< tt
-    at (suc zero) = lit< tt
-    at (suc (suc zero)) = lit< tt
-    at (suc (suc (suc zero))) = lit< tt
-    at (suc (suc (suc (suc zero)))) = lit< tt
-    at (suc (suc (suc (suc (suc zero))))) = lit< tt
-    at (suc (suc (suc (suc (suc (suc i)))))) = lit< tt
-
 -- of the flags up to i so many are up, and with those that follow these are the places
-pub record Collecting (flags places : List ℕ) (count i : ℕ) : Type 0 where
+pub record Collecting (flags : List ℕ) (places : List Place) (count i : ℕ) : Type 0 where
   pub within : i ≤ 254
   pub small : count ≤ i
-  pub placed : AllPlaced places
+  pub long : length places ≡ 6
   pub counted : count + marks_in (marks_by (drop i flags)) ≡ marks_in (marks_by flags)
-  pub so_far : count ≤ 6 → take count places ++ places_of (marks_by (drop i flags)) ≡ places_of (marks_by flags)
+  pub so_far : count ≤ 6 → take count (exponents places) ++ places_of (marks_by (drop i flags)) ≡ places_of (marks_by flags)
 
-pub collecting-none : (flags : List ℕ) → Collecting flags (0 ∷ 0 ∷ 0 ∷ 0 ∷ 0 ∷ 0 ∷ []) 0 0
-collecting-none flags = record { within = omega arith; small = omega arith; placed = none-placed; counted = omega arith; so_far = λ h. refl }
+pub collecting-none : (flags : List ℕ) (places : List Place) → length places ≡ 6 → Collecting flags places 0 0
+collecting-none flags places n = record { within = omega arith; small = omega arith; long = n; counted = omega arith; so_far = λ h. refl }
 
-module _ (flags : List ℕ) (long : length flags ≡ 254) (places : List ℕ) (count i : ℕ) (C : Collecting flags places count i) (h : i < 254) where
+module _ (flags : List ℕ) (whole : length flags ≡ 254) (places : List Place) (count i : ℕ) (C : Collecting flags places count i) (h : i < 254) where
   -- the next flag and those behind it
   next : drop i flags ≡ get_or flags i 0 ∷ drop (suc i) flags
   next = drop-cons flags i 0 (omega arith)
@@ -100,9 +79,9 @@ module _ (flags : List ℕ) (long : length flags ≡ 254) (places : List ℕ) (c
     collecting-same = record {
       within = omega arith;
       small = omega (arith, C.small);
-      placed = C.placed;
+      long = C.long;
       counted = omega (arith, ap (λ (l : List Bool). count + marks_in l) down, C.counted);
-      so_far = λ q. sym (ap (λ (l : List Bool). take count places ++ places_of l) down) ∙ C.so_far q;
+      so_far = λ q. sym (ap (λ (l : List Bool). take count (exponents places) ++ places_of l) down) ∙ C.so_far q;
     }
 
   -- it is up
@@ -116,21 +95,21 @@ module _ (flags : List ℕ) (long : length flags ≡ 254) (places : List ℕ) (c
     more = omega (arith, ap (λ (l : List Bool). count + marks_in l) up, C.counted)
 
     -- and there is room for its place
-    pub collecting-more : count < 6 → (k : ℕ) → k ≡ 253 - i → Collecting flags (set places count k) (count + 1) (i + 1)
+    pub collecting-more : count < 6 → (p : Place) → p.exponent ≡ 253 - i → Collecting flags (set places count p) (count + 1) (i + 1)
     unfolding places_of
-    collecting-more r k e = record {
+    collecting-more r p e = record {
       within = omega arith;
       small = omega (arith, C.small);
-      placed = put-placed places count k C.placed (omega arith);
+      long = length-set places count p ∙ C.long;
       counted = more;
       so_far = λ q.
-          ap₂ (λ (l m : List ℕ). l ++ m) (ap (λ (m : ℕ). take m (set places count k)) (add-one count) ∙ take-suc-set places count k (omega (arith, C.placed.long))) refl
-          ∙ append_assoc (take count places) (k ∷ []) _
-          ∙ ap (λ (m : ℕ). take count places ++ (m ∷ places_of (marks_by (drop (i + 1) flags)))) here
-          ∙ sym (ap (λ (l : List Bool). take count places ++ places_of l) up) ∙ C.so_far (omega arith);
+          ap₂ (λ (l m : List ℕ). l ++ m) (ap (take (count + 1)) (exponents-set places count p) ∙ ap (λ (m : ℕ). take m (set (exponents places) count p.exponent)) (add-one count) ∙ take-suc-set (exponents places) count p.exponent (omega (arith, C.long, exponents-long places))) refl
+          ∙ append_assoc (take count (exponents places)) (p.exponent ∷ []) _
+          ∙ ap (λ (m : ℕ). take count (exponents places) ++ (m ∷ places_of (marks_by (drop (i + 1) flags)))) here
+          ∙ sym (ap (λ (l : List Bool). take count (exponents places) ++ places_of l) up) ∙ C.so_far (omega arith);
     }
       where
-        here : k ≡ length (marks_by (drop (i + 1) flags))
+        here : p.exponent ≡ length (marks_by (drop (i + 1) flags))
         here = omega (arith, marks-length (drop (i + 1) flags), length-drop (i + 1) flags)
 
     -- and there is none
@@ -138,18 +117,17 @@ module _ (flags : List ℕ) (long : length flags ≡ 254) (places : List ℕ) (c
     collecting-many r = record {
       within = omega arith;
       small = omega (arith, C.small);
-      placed = C.placed;
+      long = C.long;
       counted = more;
       so_far = λ q. absurd (omega arith);
     }
 
-pub collecting-all : (flags places : List ℕ) (count i : ℕ) → length flags ≡ 254 → 254 ≤ i → Collecting flags places count i
+pub collecting-all : (flags : List ℕ) (places : List Place) (count i : ℕ) → length flags ≡ 254 → 254 ≤ i → Collecting flags places count i
     → MarksOf (marks_by flags) (record { count = count; places = places })
 unfolding marks_by marks_in places_of
 collecting-all flags places count i long h C =
     let none : drop i flags ≡ [] = drop_of_length-le flags {i = i} (omega arith) in
     record {
       count = omega (arith, C.counted, ap (λ (l : List ℕ). marks_in (marks_by l)) none);
-      placed = C.placed;
-      at = λ q. sym (append-nil _) ∙ sym (ap (λ (l : List ℕ). take count places ++ places_of (marks_by l)) none) ∙ C.so_far q;
+      at = λ q. sym (append-nil _) ∙ sym (ap (λ (l : List ℕ). take count (exponents places) ++ places_of (marks_by l)) none) ∙ C.so_far q;
     }

@@ -16,14 +16,16 @@ use Rattle.gf256.specs.PowerSum.{power_sum, Without, Apart}
 use Rattle.gf256.proofs.Laws.Sum.{⊕-lt, ⊕-pos}
 use Rattle.gf256.proofs.Laws.Product.{⊗-lt, ⊗-pos, pow-lt}
 use Rattle.gf256.proofs.Laws.Ring.{ring}
-use Rattle.search.specs.Search.{term, Explains, killed_of, errors_of, FindsOne, FindsTwo}
-use Rattle.search.specs.Values.{AllPlaced, terms_at, killed_by}
+use Rattle.std.specs.Prelude.{Option, Some, None, IsSomeAnd}
+use Rattle.search.specs.Search.{term, error_places, terms_at, Explains, killed_of, Are, FindsOne, FindsTwo}
+use Rattle.search.specs.Values.{exponents, killed_by}
 use Rattle.search.specs.SearchMarked.{places_in, OneMore, NoZero, Fits, Locates}
 use Rattle.search.specs.declared.marked.Marks.{Marks}
-use Rattle.search.specs.declared.solver.Errors.{Errors}
+use Rattle.search.specs.declared.errors.Error.{Error}
+use Rattle.search.proofs.Laws.Errors.{place-at}
 use Rattle.search.proofs.Laws.Moment.{explained-one}
 use Rattle.search.proofs.Laws.Two.{D-pos}
-use Rattle.search.proofs.Laws.Values.{scaled_of, length-scaled, apart-scaled, explains-scaled}
+use Rattle.search.proofs.Laws.Values.{exponents-long, scaled_of, length-scaled, apart-scaled, explains-scaled}
 
 -- ---- killing places leaves the errors elsewhere, each with another value but 0
 
@@ -124,8 +126,8 @@ module _ (n : ℕ) (left : List ℕ) where
         let at = explained-one n k z left lone.2 alone in
         (λ i. at 0 (omega arith) i ⊗ at 2 (omega arith) i ⊕ at 1 (omega arith) i ⊗ at 1 (omega arith) i) ∙ one-ring z (pow 2 k)
 
-    one_place : 2 ≤ n → k < 254 → (e : Errors) → FindsOne left e → e.k0 ≡ k
-    one_place h hk e F = ap (λ (x : Errors). x.k0) (F.finds k z hk lone.1 lone.2 (record { at = λ j l. alone.at j (omega arith) }))
+    one_place : 2 ≤ n → k < 254 → (o : Option (List Error)) → FindsOne left o → IsSomeAnd o (Are (k ∷ []) (z ∷ []))
+    one_place h hk o F = F.finds k z hk lone.1 lone.2 (record { at = λ j l. alone.at j (omega arith) })
 
   -- two
   module _ (k m : ℕ) (hk : k < 254) (hm : m < k) (h : 4 ≤ n) (L : LeftOver n (k ∷ m ∷ []) left) where
@@ -152,8 +154,8 @@ module _ (n : ℕ) (left : List ℕ) where
     two-det =
         let P = pair in D-pos n k P.y m P.z left hk hm P.first_pos P.first_byte P.second-pos P.second-byte h P.both
 
-    two-places : (e : Errors) → FindsTwo n left e → e ≡ errors_of k pair.y m pair.z 0 0
-    two-places e F =
+    two-places : (o : Option (List Error)) → FindsTwo n left o → IsSomeAnd o (Are (k ∷ m ∷ []) (pair.y ∷ pair.z ∷ []))
+    two-places o F =
         let P = pair in F.finds k P.y m P.z hk hm P.first_pos P.first_byte P.second-pos P.second-byte P.both
 
 -- ---- the three answers
@@ -178,12 +180,12 @@ refutes f b x t e = never (sym (sym (ap (λ (q : Bool). leb f b && not q) (eq-eq
 pub marked-few : (f b : ℕ) (t : Bool) → (leb f b && t) ≡ true → f ≤ b
 marked-few f b t e = leb-true f b (both_true (leb f b) t e).0
 
-module _ (s : List ℕ) (m : Marks) (pos : 0 < m.count) (few : m.count ≤ 6) (P : AllPlaced m.places) (left : List ℕ) (el : left ≡ killed_by (places_in m) s) where
+module _ (s : List ℕ) (m : Marks) (pos : 0 < m.count) (few : m.count ≤ 6) (long : length m.places ≡ 6) (left : List ℕ) (el : left ≡ killed_by (places_in m) s) where
   abbrev n : ℕ
   n = 6 - m.count
 
   in-hand : length (places_in m) ≡ m.count
-  in-hand = length-take-le m.count m.places (omega (arith, P.long))
+  in-hand = length-take-le m.count (exponents m.places) (omega (arith, long, exponents-long m.places))
 
   leftover : (v ks ys : List ℕ) → Fits (places_in m) s v ks ys → LeftOver n ks left
   leftover v ks ys F =
@@ -206,51 +208,95 @@ module _ (s : List ℕ) (m : Marks) (pos : 0 < m.count) (few : m.count ≤ 6) (P
       let q : 2 + m.count ≤ 6 = omega (arith, F.few, in-hand) in
       passes m.count 4 (get_or left 0 0) (omega arith) (one-first n left k (leftover v (k ∷ []) ys F) (omega arith))
 
-  module _ (e : Errors) (r : Marks) where
+  -- nothing else fits where two errors are told, but are not found
+  pub no-two : is_two m.count left ≡ true → FindsTwo n left None → Locates s m m
+  no-two t F = record {
+    widened = record { others = []; at = sym (append-nil _); count = omega arith; few = omega arith };
+    finds = finds;
+  }
+    where
+      two : m.count ≤ 2
+      two = marked-few m.count 2 _ t
+
+      finds : (v ks ys : List ℕ) → Fits (places_in m) s v ks ys → places_in m ≡ places_in m ++ ks
+      finds v [] ys G = sym (append-nil _)
+      finds v (k ∷ []) ys G = absurd (refutes m.count 2 (det left) t (one-det n left k (leftover v (k ∷ []) ys G) (omega (arith, two))))
+      finds v (k ∷ j ∷ []) ys G = absurd (two-places n left k j G.falling.0 G.falling.1.0 (omega (arith, two)) (leftover v (k ∷ j ∷ []) ys G) None F)
+      finds v (k ∷ j ∷ i ∷ ks) ys G = absurd (too_many v (k ∷ j ∷ i ∷ ks) ys G (omega arith))
+
+  -- nor where one is
+  pub no-one : is_two m.count left ≡ false → is_one m.count left ≡ true → FindsOne left None → Locates s m m
+  no-one t o F = record {
+    widened = record { others = []; at = sym (append-nil _); count = omega arith; few = omega arith };
+    finds = finds;
+  }
+    where
+      one : m.count ≤ 4
+      one = marked-few m.count 4 _ o
+
+      finds : (v ks ys : List ℕ) → Fits (places_in m) s v ks ys → places_in m ≡ places_in m ++ ks
+      finds v [] ys G = sym (append-nil _)
+      finds v (k ∷ []) ys G = absurd (one_place n left k (leftover v (k ∷ []) ys G) (omega (arith, one)) G.falling.0 None F)
+      finds v (k ∷ j ∷ []) ys G = never (sym (two-told v ys k j G) ∙ t)
+      finds v (k ∷ j ∷ i ∷ ks) ys G = absurd (too_many v (k ∷ j ∷ i ∷ ks) ys G (omega arith))
+
+  module _ (es : List Error) (d f : Error) (r : Marks) where
+    abbrev at : ℕ → ℕ
+    at i = get_or (error_places es) i 0
+
     -- two places more
-    pub at-two : is_two m.count left ≡ true → FindsTwo n left e → (u : Marks) → OneMore m e.k0 u → OneMore u e.k1 r → Locates s m r
-    at-two t F u A B = record {
-      placed = B.placed;
-      widened = record { others = e.k0 ∷ e.k1 ∷ []; at = places; count = omega (arith, A.count, B.count); few = omega (arith, two) };
+    pub at-two : length es ≡ 2 → is_two m.count left ≡ true → FindsTwo n left (Some es) → (u : Marks) → OneMore m (get_or es 0 d).place.exponent u → OneMore u (get_or es 1 f).place.exponent r → Locates s m r
+    at-two l t F u A' B' = record {
+      widened = record { others = at 0 ∷ at 1 ∷ []; at = places; count = omega (arith, A.count, B.count); few = omega (arith, two) };
       finds = finds;
     }
       where
         two : m.count ≤ 2
         two = marked-few m.count 2 _ t
 
-        places : places_in r ≡ places_in m ++ (e.k0 ∷ e.k1 ∷ [])
-        places = B.at ∙ ap (λ (l : List ℕ). l ++ (e.k1 ∷ [])) A.at ∙ append_assoc (places_in m) (e.k0 ∷ []) (e.k1 ∷ [])
+        A : OneMore m (at 0) u
+        A = subst (λ (k : ℕ). OneMore m k u) (place-at es 0 d (omega arith)) A'
+
+        B : OneMore u (at 1) r
+        B = subst (λ (k : ℕ). OneMore u k r) (place-at es 1 f (omega arith)) B'
+
+        places : places_in r ≡ places_in m ++ (at 0 ∷ at 1 ∷ [])
+        places = B.at ∙ ap (λ (l : List ℕ). l ++ (at 1 ∷ [])) A.at ∙ append_assoc (places_in m) (at 0 ∷ []) (at 1 ∷ [])
 
         finds : (v ks ys : List ℕ) → Fits (places_in m) s v ks ys → places_in r ≡ places_in m ++ ks
         finds v [] ys G = absurd (refutes m.count 2 (det left) t (none-det n left (leftover v [] ys G) (omega (arith, two))))
         finds v (k ∷ []) ys G = absurd (refutes m.count 2 (det left) t (one-det n left k (leftover v (k ∷ []) ys G) (omega (arith, two))))
         finds v (k ∷ j ∷ []) ys G =
-            let E = two-places n left k j G.falling.0 G.falling.1.0 (omega (arith, two)) (leftover v (k ∷ j ∷ []) ys G) e F in
-            places ∙ (λ i. places_in m ++ ((E i).k0 ∷ (E i).k1 ∷ []))
+            let E = two-places n left k j G.falling.0 G.falling.1.0 (omega (arith, two)) (leftover v (k ∷ j ∷ []) ys G) (Some es) F in
+            let a : at 0 ≡ k = ap (λ (ks : List ℕ). get_or ks 0 0) E.places in
+            let b : at 1 ≡ j = ap (λ (ks : List ℕ). get_or ks 1 0) E.places in
+            places ∙ (λ i. places_in m ++ (a i ∷ b i ∷ []))
         finds v (k ∷ j ∷ i ∷ ks) ys G = absurd (too_many v (k ∷ j ∷ i ∷ ks) ys G (omega arith))
 
     -- one place more
-    pub at_one : is_two m.count left ≡ false → is_one m.count left ≡ true → FindsOne left e → OneMore m e.k0 r → Locates s m r
-    at_one t o F A = record {
-      placed = A.placed;
-      widened = record { others = e.k0 ∷ []; at = A.at; count = omega (arith, A.count); few = omega (arith, one) };
+    pub at_one : length es ≡ 1 → is_two m.count left ≡ false → is_one m.count left ≡ true → FindsOne left (Some es) → OneMore m (get_or es 0 d).place.exponent r → Locates s m r
+    at_one l t o F A' = record {
+      widened = record { others = at 0 ∷ []; at = A.at; count = omega (arith, A.count); few = omega (arith, one) };
       finds = finds;
     }
       where
         one : m.count ≤ 4
         one = marked-few m.count 4 _ o
 
+        A : OneMore m (at 0) r
+        A = subst (λ (k : ℕ). OneMore m k r) (place-at es 0 d (omega arith)) A'
+
         finds : (v ks ys : List ℕ) → Fits (places_in m) s v ks ys → places_in r ≡ places_in m ++ ks
         finds v [] ys G = absurd (refutes m.count 4 (get_or left 0 0) o (none_first n left (leftover v [] ys G) (omega (arith, one))))
         finds v (k ∷ []) ys G =
-            A.at ∙ ap (λ (x : ℕ). places_in m ++ (x ∷ [])) (one_place n left k (leftover v (k ∷ []) ys G) (omega (arith, one)) G.falling.0 e F)
+            let E = one_place n left k (leftover v (k ∷ []) ys G) (omega (arith, one)) G.falling.0 (Some es) F in
+            A.at ∙ ap (λ (x : ℕ). places_in m ++ (x ∷ [])) (ap (λ (ks : List ℕ). get_or ks 0 0) E.places)
         finds v (k ∷ j ∷ []) ys G = never (sym (two-told v ys k j G) ∙ t)
         finds v (k ∷ j ∷ i ∷ ks) ys G = absurd (too_many v (k ∷ j ∷ i ∷ ks) ys G (omega arith))
 
   -- no place more
   pub at_none : is_two m.count left ≡ false → is_one m.count left ≡ false → Locates s m m
   at_none t o = record {
-    placed = P;
     widened = record { others = []; at = sym (append-nil _); count = omega arith; few = omega arith };
     finds = finds;
   }

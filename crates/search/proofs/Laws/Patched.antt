@@ -5,27 +5,33 @@ use mathlib.Core.Path.{◌≡◌, refl, sym, ap, ap₂, ◌∙◌, subst}
 use mathlib.Core.Bool.{Bool, true, false}
 use mathlib.Core.List.{List, [], ◌∷◌, ◌++◌}
 use Prim.Native.Nat.{ℕ, zero, suc, ◌+◌, ◌-◌, ◌≤◌, ◌<◌}
-use native.Mathlib.Nat.{suc_inj, le_of_suc-le-suc}
+use native.Mathlib.Nat.{suc_inj}
 use native.Mathlib.Numerals.{add-one}
 use native.Mathlib.Omega.{arith}
-use lib.ListN.{length, get_or, set, take, drop, length-set, length-append, take-append-drop}
-use lib.Seq.{length-take-le, take_all, set-get_or, get_or-drop}
-use Rattle.gf256.specs.Field.{◌⊕◌, pow}
+use lib.ListN.{length, get_or, set, take, drop, length-set, length-append, take-append-drop, drop_of_length-le}
+use lib.Seq.{length-take-le, set-get_or, get_or-drop, drop-cons}
+use Rattle.gf256.specs.Field.{◌⊕◌, ◌⊗◌, pow}
 use Rattle.gf256.specs.PowerSum.{power_sum}
 use Rattle.gf256.proofs.Laws.Sum.{⊕-zero-r, ⊕-assoc}
 use Rattle.basics.specs.Below.{Below}
 use Rattle.basics.proofs.Laws.Test.{never}
 use Rattle.rs.specs.Polynomial.{value_at}
 use Rattle.rs.specs.Marked.{errors}
-use Rattle.rs.proofs.Laws.Distance.{differ, differ-le}
+use Rattle.gf256.proofs.Laws.Product.{pow-swap}
+use Rattle.rs.specs.Decode.{changes}
+use Rattle.rs.proofs.Laws.Polynomial.{value_set}
+use Rattle.rs.proofs.Laws.Distance.{differ, differ-le, changes-set}
 use Rattle.rs.proofs.Laws.Errors.{errors-self}
-use Rattle.search.specs.Search.{patched}
-use Rattle.search.specs.Values.{terms_at}
-use Rattle.search.specs.SearchMarked.{places_of, patched_all}
-use Rattle.search.proofs.Laws.Repair.{patched-value}
+use Rattle.search.specs.Search.{terms_at, patched, patched_all, patched_by}
+use Rattle.search.specs.SearchMarked.{places_of}
+use Rattle.search.specs.declared.errors.Error.{Error}
 use Rattle.search.proofs.Laws.Split.{places-below}
 
 -- ---- length and values
+
+pub patched-value : (l : List ℕ) (k y j : ℕ) → length l ≡ 254 → k < 254 → value_at (pow 2 j) (patched l k y) ≡ value_at (pow 2 j) l ⊕ y ⊗ pow (pow 2 k) j
+patched-value l k y j n h =
+    value_set (pow 2 j) l (253 - k) k y (omega arith) ∙ ap (λ (p : ℕ). value_at (pow 2 j) l ⊕ y ⊗ p) (pow-swap 2 j k)
 
 pub patched-all-length : (ks v l : List ℕ) → length (patched_all ks v l) ≡ length l
 unfolding patched_all
@@ -155,36 +161,23 @@ few-errors marks n ks others v l em h e z t =
       errors-self marks l,
     )
 
--- ---- a value at a time
+-- ---- an error at a time: what the errors to come make of the block stays the same
 
--- one value more
-patched-next : (ks v l : List ℕ) (i : ℕ) → i < length ks → length v ≡ length ks
-    → patched_all (take (suc i) ks) (take (suc i) v) l ≡ patched (patched_all (take i ks) (take i v) l) (get_or ks i 0) (get_or v i 0)
+pub patched-more : (es : List Error) (l : List ℕ) (i r : ℕ) (e : Error) → i < length es → e ≡ get_or es i e
+    → r ≡ get_or l (253 - e.place.exponent) 0 ⊕ e.value → patched_by (drop (i + 1) es) (set l (253 - e.place.exponent) r) ≡ patched_by (drop i es) l
 unfolding patched_all
-patched-next [] v l i h e = absurd (omega arith)
-patched-next (k ∷ ks) [] l i h e = absurd (omega arith)
-patched-next (k ∷ ks) (y ∷ v) l zero h e = refl
-patched-next (k ∷ ks) (y ∷ v) l (suc i) h e = patched-next ks v (patched l k y) i (le_of_suc-le-suc h) (suc_inj e)
+patched-more es l i r e h q er =
+    ap₂ (λ (n v : ℕ). patched_by (drop n es) (set l (253 - e.place.exponent) v)) (add-one i) er
+    ∙ ap (λ (ds : List Error). patched_by ds l) (sym (drop-cons es i e h ∙ ap (λ (d : Error). d ∷ drop (suc i) es) (sym q)))
 
--- the first i of six values have come in
-pub record Patching (ks v old l : List ℕ) (i : ℕ) : Type 0 where
-  pub within : i ≤ 6
-  pub long : length l ≡ length old
-  pub so_far : l ≡ patched_all (take i ks) (take i v) old
+pub patched-end : (es : List Error) (l : List ℕ) (i : ℕ) → length es ≤ i → patched_by (drop i es) l ≡ l
+unfolding patched_all
+patched-end es l i h = ap (λ (ds : List Error). patched_by ds l) (drop_of_length-le es {i = i} h)
 
-module _ (ks v old : List ℕ) (nk : length ks ≡ 6) (nv : length v ≡ 6) where
-  pub patching-none : Patching ks v old old 0
-  unfolding patched_all
-  patching-none = record { within = omega arith; long = refl; so_far = refl }
+-- ---- no more bytes come to differ than values come in
 
-  pub patching-more : (l m : List ℕ) (i : ℕ) → Patching ks v old l i → i < 6 → m ≡ patched l (get_or ks i 0) (get_or v i 0) → Patching ks v old m (i + 1)
-  patching-more l m i P h e = record {
-    within = omega arith;
-    long = ap length e ∙ length-set l _ _ ∙ P.long;
-    so_far =
-        e ∙ ap (λ (x : List ℕ). patched x (get_or ks i 0) (get_or v i 0)) P.so_far ∙ sym (patched-next ks v old i (omega arith) (nv ∙ sym nk))
-        ∙ ap (λ (n : ℕ). patched_all (take n ks) (take n v) old) (sym (add-one i));
-  }
-
-  pub patching-all : (l : List ℕ) (i : ℕ) → Patching ks v old l i → 6 ≤ i → l ≡ patched_all ks v old
-  patching-all l i P h = P.so_far ∙ ap₂ (λ (a b : List ℕ). patched_all a b old) (take_all i ks (omega arith)) (take_all i v (omega arith))
+pub all-changes : (ks v l r : List ℕ) → changes (patched_all ks v l) r ≤ length ks + changes l r
+unfolding patched_all
+all-changes [] v l r = omega arith
+all-changes (k ∷ ks) [] l r = omega arith
+all-changes (k ∷ ks) (y ∷ v) l r = omega (arith, all-changes ks v (patched l k y) r, changes-set l r (253 - k) (get_or l (253 - k) 0 ⊕ y))

@@ -1,35 +1,30 @@
 -- Why repair is exact: errors that have the sums of a block lead to the codeword within three places of it, and where no three
 -- errors have them there is no such codeword.
 -- Assumes nothing.
-use mathlib.Core.Path.{◌≡◌, refl, sym, ap, ◌∙◌, subst}
-use mathlib.Core.Bool.{true, false}
+use mathlib.Core.Path.{◌≡◌, refl, sym, ap, ap₂, ◌∙◌, subst}
+use mathlib.Core.Bool.{Bool, true, false}
 use mathlib.Core.List.{List, [], ◌∷◌}
-use Prim.Native.Nat.{ℕ, zero, suc, ◌-◌, ◌<◌, ◌≤◌}
+use Prim.Native.Nat.{ℕ, zero, suc, ◌<◌, ◌≤◌}
 use native.Mathlib.Nat.{zero-lt-suc}
 use native.Mathlib.Omega.{arith}
-use lib.ListN.{length, get_or, length-set}
-use Rattle.gf256.specs.Field.{◌⊕◌, ◌⊗◌, pow}
+use lib.ListN.{length, get_or}
+use Rattle.gf256.specs.Field.{◌⊕◌, pow}
 use Rattle.gf256.specs.PowerSum.{Term, power_sum}
-use Rattle.gf256.proofs.Laws.Sum.{⊕-zero-l}
-use Rattle.gf256.proofs.Laws.Product.{pow-swap}
-use Rattle.gf256.proofs.Laws.Ring.{ring}
+use Rattle.gf256.proofs.Laws.Sum.{⊕-self, ⊕-zero-l}
 use Rattle.rs.specs.Polynomial.{value_at, ◌⊞◌, zeros}
 use Rattle.rs.specs.Codeword.{left_of, Codeword}
 use Rattle.basics.specs.Below.{Bytes}
 use Rattle.rs.specs.Decode.{changes}
-use Rattle.rs.proofs.Laws.Polynomial.{⊞-bytes, length-⊞, value-⊞, value_set}
-use Rattle.rs.proofs.Laws.Distance.{terms, length-terms, terms-sum, changes-weight, changes-zero, changes-self, changes-set}
+use Rattle.rs.proofs.Laws.Polynomial.{⊞-bytes, length-⊞, value-⊞}
+use Rattle.rs.proofs.Laws.Distance.{terms, length-terms, terms-sum, changes-weight, changes-zero, changes-self}
 use Rattle.rs.proofs.Laws.Codeword.{codeword-vanishes, vanishing-codeword, left-value, zero-codeword, codeword-zero}
 use Rattle.rs.proofs.Laws.Decode.{Answer, some-answer, none-answer, decode-complete, decode-none}
-use Rattle.search.specs.Search.{Explains, terms_of, Placed, Falling, Solved, sums_of, patched, Damaged}
-use Rattle.search.specs.declared.solver.Errors.{Errors}
-use Rattle.search.specs.declared.solver.Outcome.{Outcome}
-
--- ---- patches
-
-pub patched-value : (l : List ℕ) (k y j : ℕ) → length l ≡ 254 → k < 254 → value_at (pow 2 j) (patched l k y) ≡ value_at (pow 2 j) l ⊕ y ⊗ pow (pow 2 k) j
-patched-value l k y j n h =
-    value_set (pow 2 j) l (253 - k) k y (omega arith) ∙ ap (λ (p : ℕ). value_at (pow 2 j) l ⊕ y ⊗ p) (pow-swap 2 j k)
+use Rattle.std.specs.Prelude.{Option, Some, None, IfSome}
+use Rattle.search.specs.Search.{Explains, error_places, error_values, terms_of, FindsOne, FindsTwo, FindsThree, Falling, sums_of, patched_by, Mends, Damaged}
+use Rattle.search.specs.declared.errors.Error.{Error}
+use Rattle.search.proofs.Laws.Errors.{places-long, values-long, places-placed}
+use Rattle.search.proofs.Laws.Held.{none-solved}
+use Rattle.search.proofs.Laws.Patched.{patched-all-length, patched-all-value, all-changes}
 
 -- ---- small parts
 
@@ -42,12 +37,6 @@ sums_at l (suc (suc (suc zero))) h = refl
 sums_at l (suc (suc (suc (suc zero)))) h = refl
 sums_at l (suc (suc (suc (suc (suc zero))))) h = refl
 sums_at l (suc (suc (suc (suc (suc (suc j)))))) h = absurd (omega arith)
-
-gone-ring : (a b c : ℕ) → a ⊕ (b ⊕ (c ⊕ 0)) ⊕ a ⊕ b ⊕ c ≡ 0
-gone-ring a b c = simp ring
-
-gone : (v a b c : ℕ) → v ≡ a ⊕ (b ⊕ (c ⊕ 0)) → v ⊕ a ⊕ b ⊕ c ≡ 0
-gone v a b c e = ap (λ (x : ℕ). x ⊕ a ⊕ b ⊕ c) e ∙ gone-ring a b c
 
 -- the entries of a list as terms stand at falling exponents
 falling : (n : ℕ) (l : List ℕ) → length l ≤ n → Bytes l → Falling n (terms l)
@@ -76,48 +65,23 @@ module _ (block rest s : List ℕ) (hb : Bytes block) (D : Damaged block rest) (
 
   -- ---- errors that have the sums lead to the codeword
 
-  module _ (e : Errors) (P : Placed e) (E : Explains 6 (terms_of e) s) where
-    abbrev one : List ℕ
-    one = patched block e.k0 e.y0
+  pub found-answer : (es : List Error) → length es ≤ 3 → Explains 6 (terms_of es) s → (after : List ℕ) → Bytes after → after ≡ patched_by es block → Answer block true after
+  found-answer es few E after b t =
+      let ks : List ℕ = error_places es in
+      let v : List ℕ = error_values es in
+      let n : length after ≡ 254 = ap length t ∙ patched-all-length ks v block ∙ D.long in
+      some-answer block after
+      (decode-complete block after
+      (vanishing-codeword after n b
+      (λ j h.
+      ap (value_at (pow 2 j)) t ∙ patched-all-value ks v block j D.long (places-placed es) (values-long es ∙ sym (places-long es))
+      ∙ ap₂ ◌⊕◌ (sym (sum-value j h)) (sym (E.at j h)) ∙ ⊕-self _)) (n ∙ sym D.long)
+      (omega (arith, ap (λ (l : List ℕ). changes l block) t, all-changes ks v block block, changes-self block, places-long es)))
 
-    abbrev two : List ℕ
-    two = patched one e.k1 e.y1
-
-    abbrev three : List ℕ
-    three = patched two e.k2 e.y2
-
-    long-one : length one ≡ 254
-    long-one = length-set block _ _ ∙ D.long
-
-    long-two : length two ≡ 254
-    long-two = length-set one _ _ ∙ long-one
-
-    long-three : length three ≡ 254
-    long-three = length-set two _ _ ∙ long-two
-
-    vanishes : (j : ℕ) → j < 6 → value_at (pow 2 j) three ≡ 0
-    unfolding power_sum
-    vanishes j h =
-        patched-value two e.k2 e.y2 j long-two P.third
-        ∙ ap (λ (v : ℕ). v ⊕ e.y2 ⊗ pow (pow 2 e.k2) j)
-        (patched-value one e.k1 e.y1 j long-one P.second
-        ∙ ap (λ (v : ℕ). v ⊕ e.y1 ⊗ pow (pow 2 e.k1) j) (patched-value block e.k0 e.y0 j D.long P.first))
-        ∙ gone (value_at (pow 2 j) block) _ _ _ (sym (sum-value j h) ∙ E.at j h)
-
-    pub found-answer : (u v after : List ℕ) → Bytes after → u ≡ one → v ≡ patched u e.k1 e.y1 → after ≡ patched v e.k2 e.y2 → Answer block true after
-    found-answer u v after b eu ev ea =
-        let t : after ≡ three = ea ∙ ap (λ (l : List ℕ). patched l e.k2 e.y2) (ev ∙ ap (λ (l : List ℕ). patched l e.k1 e.y1) eu) in
-        some-answer block after
-        (decode-complete block after
-        (vanishing-codeword after (ap length t ∙ long-three) b (λ j h. ap (value_at (pow 2 j)) t ∙ vanishes j h)) (ap length t ∙ long-three ∙ sym D.long)
-        (omega (
-          arith,
-          ap (λ (l : List ℕ). changes l block) t,
-          changes-set two block (253 - e.k2) (get_or two (253 - e.k2) 0 ⊕ e.y2),
-          changes-set one block (253 - e.k1) (get_or one (253 - e.k1) 0 ⊕ e.y1),
-          changes-set block block (253 - e.k0) (get_or block (253 - e.k0) 0 ⊕ e.y0),
-          changes-self block,
-        )))
+  -- as where they were mended by
+  pub mended-answer : (n : ℕ) (o : Option (List Error)) (r : Bool) (after : List ℕ) → n ≤ 3 → Mends n s o block r after → r ≡ true → Bytes after → Answer block true after
+  mended-answer n None r after h M t b = absurd (M.right t)
+  mended-answer n (Some es) r after h M t b = let R = M.right t in found-answer es (omega (arith, R.0)) R.1 after b R.2
 
   -- what the block lacks to a codeword has them too
   pub lack-value : (c : List ℕ) → Codeword c → length c ≡ length block → (j : ℕ) → j < 6 → get_or s j 0 ≡ value_at (pow 2 j) (c ⊞ block)
@@ -126,13 +90,22 @@ module _ (block rest s : List ℕ) (hb : Bytes block) (D : Damaged block rest) (
 
   -- ---- where none have them, there is no codeword near
 
-  pub lost-answer : (o : Outcome) → Solved s o → o.found ≡ false → Answer block false block
-  lost-answer o S q =
+  pub lost-answer : ((e : Term) (es : List Term) → length es ≤ 2 → Falling 254 (e ∷ es) → Explains 6 (e ∷ es) s → ⊥) → Answer block false block
+  lost-answer none =
       none-answer block (decode-none block (λ c C n h. apart c C n h (terms (c ⊞ block)) refl))
     where
       apart : (c : List ℕ) → Codeword c → length c ≡ length block → changes c block ≤ 3 → (ts : List Term) → terms (c ⊞ block) ≡ ts → ⊥
       apart c C n h [] t = D.broken (subst Codeword (changes-zero c block n (changes-weight c block n ∙ sym (length-terms (c ⊞ block)) ∙ ap length t)) C)
       apart c C n h (d ∷ ts) t =
-          S.complete q d ts (omega (arith, ap length t, length-terms (c ⊞ block), changes-weight c block n))
+          none d ts (omega (arith, ap length t, length-terms (c ⊞ block), changes-weight c block n))
           (subst (Falling 254) t (falling 254 (c ⊞ block) (omega (arith, length-⊞ c block n, D.long)) (⊞-bytes c block C.bytes hb)))
           (record { at = λ j i. lack-value c C n j i ∙ sym (terms-sum (c ⊞ block) j) ∙ ap (λ (l : List Term). power_sum l j) t })
+
+  -- ---- by one error, by two and by three, of which only the last is still to answer
+
+  pub last-answer : (one two three : Option (List Error)) → FindsOne s one → FindsTwo 6 s two → FindsThree s three
+      → IfSome one (λ es. Explains 6 (terms_of es) s → ⊥) → IfSome two (λ es. Explains 6 (terms_of es) s → ⊥)
+      → (r : Bool) (after : List ℕ) → Mends 3 s three block r after → Bytes after → Answer block r after
+  last-answer one two three F1 F2 F3 W1 W2 true after M b = mended-answer 3 three true after (omega arith) M refl b
+  last-answer one two three F1 F2 F3 W1 W2 false after M b =
+      subst (Answer block false) (sym (M.kept refl)) (lost-answer (none-solved s one two three F1 F2 F3 W1 W2 (M.wrong refl)))

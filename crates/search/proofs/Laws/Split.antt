@@ -17,8 +17,7 @@ use Rattle.rs.specs.Polynomial.{value_at, ◌⊞◌}
 use Rattle.rs.specs.Marked.{marks_in, errors, cost}
 use Rattle.rs.proofs.Laws.Polynomial.{⊞-bytes, length-⊞}
 use Rattle.rs.proofs.Laws.Distance.{place}
-use Rattle.search.specs.Search.{term}
-use Rattle.search.specs.Values.{terms_at}
+use Rattle.search.specs.Search.{term, terms_at}
 use Rattle.search.specs.SearchMarked.{places_of, Descending, NoZero, Fits}
 
 -- ---- the parts

@@ -5,13 +5,16 @@ use mathlib.Core.Path.{◌≡◌, sym, ap, ap₂, ◌∙◌, subst}
 use mathlib.Core.List.{List, [], ◌∷◌}
 use Prim.Native.Nat.{ℕ, suc, ◌<◌}
 use native.Mathlib.Omega.{arith}
-use lib.ListN.{get_or}
+use lib.ListN.{length, get_or}
 use Rattle.gf256.specs.Field.{◌⊕◌, ◌⊗◌, pow, over}
 use Rattle.gf256.proofs.Laws.Sum.{⊕-assoc, ⊕-comm, ⊕-left-comm, ⊕-lt, ⊕-self, ⊕-zero-r}
 use Rattle.gf256.proofs.Laws.Product.{⊗-lt, ⊗-pos, ⊗-zero-l, ⊗-zero-r, pow-lt, over-unique}
 use Rattle.gf256.proofs.Laws.Ring.{ring}
-use Rattle.search.specs.Search.{term, Explains, killed_of, cubic, locator_three, TopRoot, determinant, Tables, errors_of, FindsTwo}
-use Rattle.search.specs.declared.solver.Errors.{Errors}
+use Rattle.search.specs.Search.{term, Explains, killed_of, cubic, locator_three, TopRoot, determinant, Are, FindsTwo}
+use Rattle.std.specs.Prelude.{Option, Some, None, IsSomeAnd}
+use Rattle.search.specs.declared.errors.Place.{Place}
+use Rattle.search.specs.declared.errors.Error.{Error}
+use Rattle.search.proofs.Laws.Errors.{place-at, value-at}
 use Rattle.search.specs.declared.solver.Locator.{Locator}
 use Rattle.search.proofs.Laws.Moment.{moment, apart, explained-one, explained-two, explained-three, explains-kill}
 
@@ -256,8 +259,14 @@ module _ (k a m b i c : ℕ) (s : List ℕ) (hk : k < 254) (hm : m < k) (hi : i 
   unfolding locator_three
   locator-three = λ j. record { a = over-P j; b = over-Q j; c = over-R j }
 
-  pub top-three : (l : Locator) → l ≡ locator_three s → (r : ℕ) → TopRoot l r → r ≡ k
-  top-three l e r T = (subst (λ (q : Locator). TopRoot q r) (e ∙ locator-three) T).top k hk root-first root-above
+  top-root : (l : Locator) → l ≡ locator_three s → (o : Option Place) → TopRoot l o → IsSomeAnd o (λ p. p.exponent ≡ k)
+  top-root l e o T = (subst (λ (q : Locator). TopRoot q o) (e ∙ locator-three) T).top k hk root-first root-above
+
+  pub no-top-three : (l : Locator) → l ≡ locator_three s → TopRoot l None → ⊥
+  no-top-three l e T = top-root l e None T
+
+  pub top-three : (l : Locator) → l ≡ locator_three s → (p : Place) → TopRoot l (Some p) → p.exponent ≡ k
+  top-three l e p T = top-root l e (Some p) T
 
   -- the values, from those that are left once the first place is killed
   second-three : over B (X ⊕ Y) ≡ b
@@ -271,32 +280,37 @@ module _ (k a m b i c : ℕ) (s : List ℕ) (hk : k < 254) (hm : m < k) (hi : i 
 
   -- ---- what the solver works out
 
-  module _ (w g : List ℕ) (t : Tables w g) (r : ℕ) (er : r ≡ k) (x : ℕ) (ex : x ≡ get_or w r 0) (l : List ℕ) (el : l ≡ killed_of x s)
-      (e : Errors) (F : FindsTwo 5 l e) where
+  module _ (r : ℕ) (er : r ≡ k) (x : ℕ) (ex : x ≡ pow 2 r) (l : List ℕ) (el : l ≡ killed_of x s) where
     place : x ≡ X
-    place = ex ∙ ap (λ (j : ℕ). get_or w j 0) er ∙ t.wheel.at k (omega arith)
+    place = ex ∙ ap (pow 2) er
 
-    found : e ≡ errors_of m B i C 0 0
-    found =
+    found : (o : Option (List Error)) → FindsTwo 5 l o → IsSomeAnd o (Are (m ∷ i ∷ []) (B ∷ C ∷ []))
+    found o F =
         F.finds m B i C (omega arith) hi B-pos (⊗-lt _ _) C-pos (⊗-lt _ _)
         (subst (Explains 5 (term m B ∷ term i C ∷ [])) (sym (el ∙ ap (λ (j : ℕ). killed_of j s) place)) left-two)
 
-    -- a value over the sum of its place and the first one
-    value : (v f u j p q : ℕ) → v ≡ q → j ≡ p → p < 254 → f ≡ x ⊕ get_or w j 0 → u ≡ over v f → u ≡ over q (X ⊕ pow 2 p)
-    value v f u j p q ev ej hp ef eu =
-        eu ∙ ap₂ over ev (ef ∙ ap₂ ◌⊕◌ place (ap (λ (n : ℕ). get_or w n 0) ej ∙ t.wheel.at p (omega arith)))
+    pub no-two-left : FindsTwo 5 l None → ⊥
+    no-two-left F = found None F
 
-    pub second-place : e.k0 ≡ m
-    second-place = ap (λ (d : Errors). d.k0) found
+    module _ (es : List Error) (F : FindsTwo 5 l (Some es)) (n : length es ≡ 2) (d : Error) where
+      are : Are (m ∷ i ∷ []) (B ∷ C ∷ []) es
+      are = found (Some es) F
 
-    pub third-place : e.k1 ≡ i
-    third-place = ap (λ (d : Errors). d.k1) found
+      -- a value over the sum of its place and the first one
+      value : (v f u j p q : ℕ) → v ≡ q → j ≡ p → f ≡ x ⊕ pow 2 j → u ≡ over v f → u ≡ over q (X ⊕ pow 2 p)
+      value v f u j p q ev ej ef eu = eu ∙ ap₂ over ev (ef ∙ ap₂ ◌⊕◌ place (ap (pow 2) ej))
 
-    pub second-value : (f u : ℕ) → f ≡ x ⊕ get_or w e.k0 0 → u ≡ over e.y0 f → u ≡ b
-    second-value f u ef eu = value e.y0 f u e.k0 m B (ap (λ (d : Errors). d.y0) found) second-place (omega arith) ef eu ∙ second-three
+      pub second-place : (get_or es 0 d).place.exponent ≡ m
+      second-place = place-at es 0 d (omega arith) ∙ ap (λ (ks : List ℕ). get_or ks 0 0) are.places
 
-    pub third-value : (f u : ℕ) → f ≡ x ⊕ get_or w e.k1 0 → u ≡ over e.y1 f → u ≡ c
-    third-value f u ef eu = value e.y1 f u e.k1 i C (ap (λ (d : Errors). d.y1) found) third-place (omega arith) ef eu ∙ third-three
+      pub third-place : (get_or es 1 d).place.exponent ≡ i
+      third-place = place-at es 1 d (omega arith) ∙ ap (λ (ks : List ℕ). get_or ks 1 0) are.places
+
+      pub second-value : (j f u : ℕ) → j ≡ m → f ≡ x ⊕ pow 2 j → u ≡ over (get_or es 0 d).value f → u ≡ b
+      second-value j f u ej ef eu = value _ f u j m B (value-at es 0 d (omega arith) ∙ ap (λ (ks : List ℕ). get_or ks 0 0) are.values) ej ef eu ∙ second-three
+
+      pub third-value : (j f u : ℕ) → j ≡ i → f ≡ x ⊕ pow 2 j → u ≡ over (get_or es 1 d).value f → u ≡ c
+      third-value j f u ej ef eu = value _ f u j i C (value-at es 1 d (omega arith) ∙ ap (λ (ks : List ℕ). get_or ks 1 0) are.values) ej ef eu ∙ third-three
 
     pub first-value : (u v q : ℕ) → u ≡ b → v ≡ c → q ≡ S 0 ⊕ u ⊕ v → q ≡ a
     first-value u v q eu ev eq = eq ∙ ap₂ (λ (n j : ℕ). S 0 ⊕ n ⊕ j) eu ev ∙ first_three

@@ -10,10 +10,10 @@ use lib.ListN.{get_or}
 use Rattle.gf256.specs.Field.{◌⊕◌, ◌⊗◌, pow, over}
 use Rattle.gf256.proofs.Laws.Sum.{⊕-lt, ⊕-self, ⊕-cancel}
 use Rattle.gf256.proofs.Laws.Product.{⊗-lt, ⊗-pos, ⊗-zero-l, ⊗-zero-r, pow-lt, pow_pos, over-unique}
-use Rattle.gf256.specs.Lent.{log_in}
-use Rattle.gf256.proofs.Laws.Lent.{log-pow}
+use Rattle.std.specs.Prelude.{Option, Some, None, IsSomeAnd}
 use Rattle.gf256.proofs.Laws.Ring.{ring}
-use Rattle.search.specs.Search.{term, Explains, Steps, cubic, locator_two, TopRoot, Tables}
+use Rattle.search.specs.Search.{term, Explains, Steps, cubic, locator_two, TopRoot}
+use Rattle.search.specs.declared.errors.Place.{Place}
 use Rattle.search.specs.declared.solver.Locator.{Locator}
 use Rattle.search.proofs.Laws.Moment.{moment, apart, explained-two}
 
@@ -144,16 +144,18 @@ module _ (n k y m z : ℕ) (s : List ℕ) (hk : k < 254) (hm : m < k) (py : 0 < 
     pub steps-two : Steps n l.a l.b s
     steps-two = rw (a-two, b-two) steps
 
-    pub top-two : (r : ℕ) → TopRoot l r → r ≡ k
-    top-two r T = T.top k hk (rw (a-two, b-two, c-two) root-first) (λ j h i q. root-above j h i (rw (a-two, b-two, c-two) at q))
+    top-root : (o : Option Place) → TopRoot l o → IsSomeAnd o (λ p. p.exponent ≡ k)
+    top-root o T = T.top k hk (rw (a-two, b-two, c-two) root-first) (λ j h i q. root-above j h i (rw (a-two, b-two, c-two) at q))
+
+    pub no-top-two : TopRoot l None → ⊥
+    no-top-two T = top-root None T
+
+    pub top-two : (p : Place) → TopRoot l (Some p) → p.exponent ≡ k
+    top-two p T = top-root (Some p) T
 
     -- the other place, which is left of the sum of both
-    pub other-two : (w g : List ℕ) (r v : ℕ) → Tables w g → TopRoot l r → v ≡ get_or w r 0 ⊕ l.a → v ≡ Z
-    other-two w g r v t T q =
-        q ∙ ap (λ (i : ℕ). get_or w i 0 ⊕ l.a) (top-two r T) ∙ ap₂ ◌⊕◌ (t.wheel.at k (omega arith)) a-two ∙ ⊕-cancel X Z
-
-    pub log-two : (w g : List ℕ) (r v i : ℕ) → Tables w g → TopRoot l r → v ≡ get_or w r 0 ⊕ l.a → i ≡ log_in g v → i ≡ m
-    log-two w g r v i t T q p = p ∙ ap (log_in g) (other-two w g r v t T q) ∙ log-pow g m (omega arith) t.logs
+    pub other-two : (r v : ℕ) → r ≡ k → v ≡ pow 2 r ⊕ l.a → v ≡ Z
+    other-two r v e q = q ∙ ap₂ ◌⊕◌ (ap (pow 2) e) a-two ∙ ⊕-cancel X Z
 
     pub value-two : (v p u : ℕ) → v ≡ Z → p ≡ get_or s 1 0 ⊕ v ⊗ get_or s 0 0 → u ≡ over p l.a → u ≡ y
     value-two v p u ev ep eu = eu ∙ ap₂ over (ep ∙ ap (λ (q : ℕ). get_or s 1 0 ⊕ q ⊗ get_or s 0 0) ev) a-two ∙ first_two

@@ -1,52 +1,87 @@
--- Values at places: the order in which places are killed, the values that the sums allow, and sums that are compared one at a time.
+-- Values at places: the order in which places are killed, and the values that the sums allow.
 -- Assumes nothing.
 use mathlib.Core.Path.{◌≡◌, refl, sym, ap, ap₂, ◌∙◌, subst}
-use mathlib.Core.Bool.{true, false}
 use mathlib.Core.List.{List, [], ◌∷◌, ◌++◌}
 use Prim.Native.Nat.{ℕ, zero, suc, ◌+◌, ◌≤◌, ◌<◌}
-use native.Mathlib.Nat.{le_of_suc-le-suc, not-suc-le-zero, zero-lt-suc, zero-add, add-zero}
+use native.Mathlib.Nat.{le_of_suc-le-suc, not-suc-le-zero, zero-lt-suc}
 use native.Mathlib.Numerals.{add-one}
 use native.Mathlib.Omega.{arith}
-use lib.ListN.{length, get_or, set, take, drop, replicate, length-set}
-use lib.Seq.{take-suc, drop-cons, get_or-take, get_or-set_same, get_or-set_other, length-take-le}
+use lib.ListN.{length, get_or, set, take, drop, replicate, length-set, drop_of_length-le}
+use lib.Seq.{ext_get_or, take-suc, drop-cons, get_or-take, get_or-set_same, get_or-set_other, length-take-le}
 use Rattle.gf256.specs.Field.{◌⊕◌, ◌⊗◌, pow, over}
 use Rattle.gf256.specs.PowerSum.{Term, power_sum, Without, Apart, ByteTerms, kill}
-use Rattle.gf256.proofs.Laws.Sum.{⊕-self, ⊕-zero-l, ⊕-zero-r, ⊕-lt, ⊕-pos}
-use Rattle.gf256.proofs.Laws.Product.{⊗-zero-l, ⊗-one-r, ⊗-lt, pow-lt, over-unique, over-zero-l}
-use Rattle.gf256.proofs.Laws.PowerSum.{kill-sum}
+use Rattle.gf256.proofs.Laws.Sum.{⊕-self, ⊕-assoc, ⊕-zero-l, ⊕-zero-r, ⊕-lt, ⊕-pos}
+use Rattle.gf256.proofs.Laws.Product.{⊗-one-r, ⊗-lt, pow-lt, over-unique, over-zero-l}
 use Rattle.gf256.proofs.Laws.Lent.{zeros-at}
 use Rattle.gf256.proofs.Laws.Ring.{ring}
-use Rattle.basics.proofs.Laws.Below.{at-below}
-use Rattle.basics.proofs.Laws.Parts.{same-cons, all-entries}
-use Rattle.basics.proofs.Laws.Test.{never, below_more}
-use Rattle.search.specs.Search.{Explains, killed_of}
-use Rattle.search.specs.Values.{terms_at, killed_by, KillsAll, sum_of, unscaled_of, stepped_of, FindsValues, HeldAt}
-use Rattle.search.proofs.Laws.Moment.{explains-kill, six-equal}
-use Rattle.search.proofs.Laws.Split.{terms-bytes}
+use Rattle.basics.proofs.Laws.Parts.{same-cons}
+use Rattle.basics.proofs.Laws.Test.{below_more}
+use Rattle.search.specs.Search.{Explains, terms_at, killed_of}
+use Rattle.search.specs.Values.{exponents, killed_by, KillsAll, sum_of, unscaled_of, Unscaled, FindsValues}
+use Rattle.search.specs.declared.errors.Place.{Place}
+use Rattle.search.proofs.Laws.Moment.{explains-kill}
 
--- ---- six entries, one by one
+-- ---- the exponents of places
 
-regroup : (a b c d e f : ℕ) → a ⊕ b ⊕ (c ⊕ d) ⊕ (e ⊕ f) ≡ a ⊕ (b ⊕ (c ⊕ (d ⊕ (e ⊕ (f ⊕ 0)))))
-regroup a b c d e f = simp ring
+pub exponents-long : (ps : List Place) → length (exponents ps) ≡ length ps
+exponents-long [] = refl
+exponents-long (p ∷ ps) = ap suc (exponents-long ps)
 
-pub six-sum : (v : List ℕ) → length v ≡ 6
-    → get_or v 0 0 ⊕ get_or v 1 0 ⊕ (get_or v 2 0 ⊕ get_or v 3 0) ⊕ (get_or v 4 0 ⊕ get_or v 5 0) ≡ sum_of v
+pub exponent-at : (ps : List Place) (i : ℕ) (d : Place) → i < length ps → (get_or ps i d).exponent ≡ get_or (exponents ps) i 0
+exponent-at [] i d h = absurd (not-suc-le-zero h)
+exponent-at (p ∷ ps) zero d h = refl
+exponent-at (p ∷ ps) (suc i) d h = exponent-at ps i d (le_of_suc-le-suc h)
+
+pub exponents-set : (ps : List Place) (i : ℕ) (p : Place) → exponents (set ps i p) ≡ set (exponents ps) i p.exponent
+exponents-set [] i p = refl
+exponents-set (q ∷ ps) zero p = refl
+exponents-set (q ∷ ps) (suc i) p = ap (λ (ks : List ℕ). q.exponent ∷ ks) (exponents-set ps i p)
+
+-- ---- the sum of values, a value at a time
+
+pub summed-none : (v : List ℕ) → 0 ⊕ sum_of v ≡ sum_of v
+summed-none v = ⊕-zero-l _
+
+pub summed-more : (v : List ℕ) (s r i : ℕ) → i < length v → s ⊕ sum_of (drop i v) ≡ sum_of v → r ≡ s ⊕ get_or v i 0 → r ⊕ sum_of (drop (i + 1) v) ≡ sum_of v
 unfolding sum_of
-six-sum v n = regroup _ _ _ _ _ _ ∙ ap sum_of (all-entries 6 v n)
+summed-more v s r i h e q =
+    ap₂ (λ (a n : ℕ). a ⊕ sum_of (drop n v)) q (add-one i) ∙ ⊕-assoc _ _ _ ∙ ap (λ (w : List ℕ). s ⊕ sum_of w) (sym (drop-cons v i 0 h)) ∙ e
 
-module _ (ks v : List ℕ) (m : length ks ≡ 6) (n : length v ≡ 6) (a b c d e f : ℕ) where
-  pub six-unscaled : (x : ℕ) → a ≡ over (get_or v 0 0) (pow 2 (get_or ks 0 0) ⊕ x) → b ≡ over (get_or v 1 0) (pow 2 (get_or ks 1 0) ⊕ x)
-      → c ≡ over (get_or v 2 0) (pow 2 (get_or ks 2 0) ⊕ x) → d ≡ over (get_or v 3 0) (pow 2 (get_or ks 3 0) ⊕ x)
-      → e ≡ over (get_or v 4 0) (pow 2 (get_or ks 4 0) ⊕ x) → f ≡ over (get_or v 5 0) (pow 2 (get_or ks 5 0) ⊕ x)
-      → a ∷ b ∷ c ∷ d ∷ e ∷ f ∷ [] ≡ unscaled_of x ks v
-  unfolding unscaled_of
-  six-unscaled x p q r s t u = six-equal p q r s t u ∙ ap₂ (unscaled_of x) (all-entries 6 ks m) (all-entries 6 v n)
+pub summed-all : (v : List ℕ) (s i : ℕ) → length v ≤ i → s ⊕ sum_of (drop i v) ≡ sum_of v → s ≡ sum_of v
+unfolding sum_of
+summed-all v s i h e = sym (⊕-zero-r s) ∙ ap (λ (w : List ℕ). s ⊕ sum_of w) (sym (drop_of_length-le v {i = i} h)) ∙ e
 
-  pub six-stepped : a ≡ get_or v 0 0 ⊗ pow 2 (get_or ks 0 0) → b ≡ get_or v 1 0 ⊗ pow 2 (get_or ks 1 0) → c ≡ get_or v 2 0 ⊗ pow 2 (get_or ks 2 0)
-      → d ≡ get_or v 3 0 ⊗ pow 2 (get_or ks 3 0) → e ≡ get_or v 4 0 ⊗ pow 2 (get_or ks 4 0) → f ≡ get_or v 5 0 ⊗ pow 2 (get_or ks 5 0)
-      → a ∷ b ∷ c ∷ d ∷ e ∷ f ∷ [] ≡ stepped_of ks v
-  unfolding stepped_of
-  six-stepped p q r s t u = six-equal p q r s t u ∙ ap₂ stepped_of (all-entries 6 ks m) (all-entries 6 v n)
+-- ---- values taken to what they were, a value at a time
+
+length-unscaled : (x : ℕ) (ks v : List ℕ) → length v ≡ length ks → length (unscaled_of x ks v) ≡ length ks
+unfolding unscaled_of
+length-unscaled x [] v n = refl
+length-unscaled x (k ∷ ks) [] n = n
+length-unscaled x (k ∷ ks) (y ∷ v) n = ap suc (length-unscaled x ks v (omega arith))
+
+pub unscaled-none : (x : ℕ) (ks v : List ℕ) → Unscaled 0 x ks v v
+unscaled-none x ks v = record { long = refl; done = λ i h. absurd (omega arith); rest = λ i h. refl }
+
+pub unscaled-more : (n x : ℕ) (ks v u : List ℕ) (r : ℕ) → n < length v → Unscaled n x ks v u → r ≡ over (get_or u n 0) (pow 2 (get_or ks n 0) ⊕ x)
+    → Unscaled (n + 1) x ks v (set u n r)
+unscaled-more n x ks v u r h U e = record {
+  long = length-set u n r ∙ U.long;
+  done = below_more _ n (λ i b. get_or-set_other u n i r 0 (λ z. omega arith) ∙ U.done i b)
+      (get_or-set_same u n r 0 (omega (arith, U.long)) ∙ e ∙ ap (λ (y : ℕ). over y (pow 2 (get_or ks n 0) ⊕ x)) (U.rest n (omega arith)));
+  rest = λ i b. get_or-set_other u n i r 0 (λ z. omega arith) ∙ U.rest i (omega arith);
+}
+
+unscaled-at : (x : ℕ) (ks v : List ℕ) (i : ℕ) → i < length ks → i < length v → get_or (unscaled_of x ks v) i 0 ≡ over (get_or v i 0) (pow 2 (get_or ks i 0) ⊕ x)
+unfolding unscaled_of
+unscaled-at x [] v i h l = absurd (not-suc-le-zero h)
+unscaled-at x (k ∷ ks) [] i h l = absurd (not-suc-le-zero l)
+unscaled-at x (k ∷ ks) (y ∷ v) zero h l = refl
+unscaled-at x (k ∷ ks) (y ∷ v) (suc i) h l = unscaled-at x ks v i (le_of_suc-le-suc h) (le_of_suc-le-suc l)
+
+pub unscaled-all : (n x : ℕ) (ks v u : List ℕ) → length v ≡ length ks → length v ≤ n → Unscaled n x ks v u → u ≡ unscaled_of x ks v
+unscaled-all n x ks v u m h U =
+    ext_get_or 0 u (unscaled_of x ks v) (U.long ∙ m ∙ sym (length-unscaled x ks v m))
+    (λ i b. U.done i (omega (arith, U.long)) ∙ sym (unscaled-at x ks v i (omega (arith, U.long)) (omega (arith, U.long))))
 
 -- ---- places that are killed
 
@@ -222,12 +257,6 @@ unscaled-zero x (k ∷ ks) [] j e = refl
 unscaled-zero x (k ∷ ks) (y ∷ v) zero e = ap (λ (z : ℕ). over z (pow 2 k ⊕ x)) e ∙ over-zero-l _
 unscaled-zero x (k ∷ ks) (y ∷ v) (suc j) e = unscaled-zero x ks v j e
 
-length-unscaled : (x : ℕ) (ks v : List ℕ) → length v ≡ length ks → length (unscaled_of x ks v) ≡ length ks
-unfolding unscaled_of
-length-unscaled x [] v n = refl
-length-unscaled x (k ∷ ks) [] n = n
-length-unscaled x (k ∷ ks) (y ∷ v) n = ap suc (length-unscaled x ks v (omega arith))
-
 -- zeros add nothing
 sum_zeros : (v : List ℕ) → ((j : ℕ) → get_or v j 0 ≡ 0) → sum_of v ≡ 0
 unfolding sum_of
@@ -332,60 +361,3 @@ valued-all n s places v i h l z W =
       finds = λ y e b a E.
           r ∙ values-right (take n places) y s (e ∙ sym m) (omega arith) b a (subst (λ (k : ℕ). Explains k (terms_at (take n places) y) s) (sym m) E);
     }
-
--- ---- a sum at a time
-
--- to step is to kill 0
-stepped-scaled : (ks v : List ℕ) → stepped_of ks v ≡ scaled_of 0 ks v
-unfolding stepped_of scaled_of
-stepped-scaled [] v = refl
-stepped-scaled (k ∷ ks) [] = refl
-stepped-scaled (k ∷ ks) (y ∷ v) = same-cons (ap (◌⊗◌ y) (sym (⊕-zero-r (pow 2 k)))) (stepped-scaled ks v)
-
--- the sums once 0 is killed are the next ones
-next-sum : (ks v : List ℕ) (l : ℕ) → power_sum (terms_at ks (scaled_of 0 ks v)) l ≡ power_sum (terms_at ks v) (suc l)
-next-sum ks v l =
-    ap (λ (es : List Term). power_sum es l) (sym (kill-terms 0 ks v)) ∙ sym (kill-sum 0 (terms_at ks v) l) ∙ ap (◌⊕◌ _) (⊗-zero-l _) ∙ ⊕-zero-r _
-
--- the sums of the parts are those from the j-th on, and the sums before it are right
-pub record Explaining (s places v parts : List ℕ) (j : ℕ) : Type 0 where
-  pub within : j ≤ 6
-  pub long : length parts ≡ length places
-  pub bytes : ByteTerms (terms_at places parts)
-  pub from : (l : ℕ) → power_sum (terms_at places parts) l ≡ power_sum (terms_at places v) (j + l)
-  pub passed : (l : ℕ) → l < j → get_or s l 0 ≡ power_sum (terms_at places v) l
-
--- none yet
-pub explaining-none : (s places v : List ℕ) → length v ≡ length places → ((i : ℕ) → get_or v i 0 < 256) → Explaining s places v v 0
-explaining-none s places v n b = record {
-  within = omega arith;
-  long = n;
-  bytes = terms-bytes places v (at-below 256 v b);
-  from = λ l. ap (power_sum (terms_at places v)) (sym (zero-add l));
-  passed = λ l h. absurd (omega arith);
-}
-
-module _ (s places v parts : List ℕ) (j : ℕ) (H : Explaining s places v parts j) where
-  -- the sum of the parts
-  parts-sum : sum_of parts ≡ power_sum (terms_at places v) j
-  parts-sum = sym (first-sum places parts H.long H.bytes) ∙ H.from 0 ∙ ap (power_sum (terms_at places v)) (add-zero j)
-
-  -- one more
-  pub explaining-more : (next : List ℕ) (r : ℕ) → j < 6 → r ≡ sum_of parts → get_or s j 0 ≡ r → next ≡ stepped_of places parts → Explaining s places v next (j + 1)
-  explaining-more next r l er es e =
-      let q : next ≡ scaled_of 0 places parts = e ∙ stepped-scaled places parts in
-      record {
-        within = omega arith;
-        long = ap length q ∙ length-scaled 0 places parts H.long;
-        bytes = subst (λ (w : List ℕ). ByteTerms (terms_at places w)) (sym q) (bytes-scaled 0 places parts);
-        from = λ i.
-            ap (λ (w : List ℕ). power_sum (terms_at places w) i) q ∙ next-sum places parts i ∙ H.from (suc i)
-            ∙ ap (power_sum (terms_at places v)) (omega arith);
-        passed = below_more _ j H.passed (es ∙ er ∙ parts-sum);
-      }
-
-  pub held-false : (r : ℕ) → j < 6 → r ≡ sum_of parts → (get_or s j 0 ≡ r → ⊥) → HeldAt s places v false
-  held-false r l er n = record { sound = λ e. never (sym e); complete = λ E. absurd (n (E.at j l ∙ sym (er ∙ parts-sum))) }
-
-  pub held-true : 6 ≤ j → HeldAt s places v true
-  held-true l = record { sound = λ e. record { at = λ i h. H.passed i (omega arith) }; complete = λ E. refl }

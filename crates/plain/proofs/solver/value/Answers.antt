@@ -5,7 +5,7 @@ use Prim.Native.Nat.{ℕ}
 use native.Mathlib.Omega.{arith}
 use lib.ListN.{get_or}
 use Rattle.gf256.specs.Field.{◌⊕◌}
-use Rattle.plain.proofs.Laws.Sums.{value-none, value-more}
+use Rattle.rs.proofs.Laws.Polynomial.{value-none, value-more}
 use Rattle.plain.proofs.solver.value.Goals as goal
 
 pub loop-byte-init : goal.loop-byte-init

@@ -11,6 +11,6 @@ pub returns-then-word-word_of : goal.returns-then-word-word_of
 unfolding flag_of
 returns-then-word-word_of c = sym (ap (λ (t : Bool). cond t 0 1) (sound-word _ ∙ eq-eqb _ _ (c.if-word-word_of.true ∙ c.word_of.ensures)))
 
-pub returns : goal.returns
+pub returns-else-word-word_of : goal.returns-else-word-word_of
 unfolding flag_of
-returns c = sym (ap (λ (t : Bool). cond t 0 1) (sound-word _ ∙ ne_eqb _ _ (λ e. c.if-word-word_of.false (e ∙ sym c.word_of.ensures))))
+returns-else-word-word_of c = sym (ap (λ (t : Bool). cond t 0 1) (sound-word _ ∙ ne_eqb _ _ (λ e. c.if-word-word_of.false (e ∙ sym c.word_of.ensures))))

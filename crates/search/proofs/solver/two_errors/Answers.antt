@@ -1,41 +1,46 @@
 -- `search::solver::two_errors` meets its contract: the places are the roots of the locator.
 -- Assumes nothing.
-use mathlib.Core.Path.{refl, sym, ◌∙◌}
+use mathlib.Core.Path.{refl, sym, ap, ◌∙◌}
+use Prim.Native.Nat.{ℕ}
 use native.Mathlib.Omega.{arith}
 use Rattle.basics.proofs.Laws.Test.{never}
-use Rattle.search.proofs.Laws.Errors.{errors-equal, not-two}
-use Rattle.search.proofs.Laws.Two.{steps-two, top-two, other-two, log-two, value-two, left-two}
-use borrow.Author.Rules.{rules}
+use Rattle.basics.proofs.Laws.Parts.{same-cons}
+use Rattle.gf256.specs.Field.{◌⊕◌}
+use Rattle.search.proofs.Laws.Errors.{not-two}
+use Rattle.search.proofs.Laws.Two.{steps-two, no-top-two, top-two, other-two, value-two, left-two}
 use Rattle.search.proofs.solver.two_errors.Goals as goal
 
 pub returns-then-not-steps : goal.returns-then-not-steps
 returns-then-not-steps c =
-    let locator = c.locator_two-l in
-    not-two _ _ _ c.no_errors.ensures
-    (λ k y m z hk hm py hy pz hz E. never (sym (c.steps.ensures (steps-two _ k y m z _ hk hm py hy pz hz c.requires.1 E _ locator.ensures)) ∙ c.if-not-steps.true))
-
-pub returns-then-k-ge254 : goal.returns-then-k-ge254
-returns-then-k-ge254 c =
-    let locator = c.locator_two-l in
-    not-two _ _ _ c.no_errors-then-k-ge254.ensures (λ k y m z hk hm py hy pz hz E. omega (arith, top-two _ k y m z _ hk hm py hy pz hz c.requires.1 E _ locator.ensures _ c.top_root-k.ensures))
-
-pub returns-then-m-ge254 : goal.returns-then-m-ge254
-returns-then-m-ge254 c =
-    let locator = c.locator_two-l in
-    not-two _ _ _ c.no_errors-then-m-ge254.ensures
+    not-two c.args.n c.args.s
     (λ k y m z hk hm py hy pz hz E.
-    omega (arith, log-two _ k y m z _ hk hm py hy pz hz c.requires.1 E _ locator.ensures _ _ _ _ _ c.requires.0 c.top_root-k.ensures c.sum-z.ensures c.log_in-m.ensures.0))
+    never (sym (c.steps.ensures (steps-two _ k y m z _ hk hm py hy pz hz c.requires.0 E _ c.locator_two-l.ensures)) ∙ c.if-not-steps.true))
+
+pub returns-in_err-first : goal.returns-in_err-first
+returns-in_err-first c =
+    rw c.from_residual.ensures
+    (not-two c.args.n c.args.s (λ k y m z hk hm py hy pz hz E. no-top-two _ k y m z _ hk hm py hy pz hz c.requires.0 E _ c.locator_two-l.ensures c.in_err-first.ensures))
+
+pub returns-in_err-second : goal.returns-in_err-second
+returns-in_err-second c =
+    let l = c.locator_two-l in
+    rw c.from_residual-in_err-second.ensures
+    (not-two c.args.n c.args.s
+    (λ k y m z hk hm py hy pz hz E.
+    let top = top-two _ k y m z _ hk hm py hy pz hz c.requires.0 E _ l.ensures _ c.in_ok-first.ensures in
+    c.in_err-second.ensures.at m (omega arith)
+    (other-two _ k y m z _ hk hm py hy pz hz c.requires.0 E _ l.ensures _ _ top (c.sum-z.ensures ∙ ap (λ (p : ℕ). p ⊕ l.result.a) c.power.ensures))))
 
 pub returns : goal.returns
 returns c =
-    let locator = c.locator_two-l in
-    let root = c.top_root-k.ensures in
-    let rest = c.sum-z.ensures in
+    let l = c.locator_two-l in
     record {
-      placed = record { first = search rules; second = search rules; third = search rules };
       finds = λ k y m z hk hm py hy pz hz E.
-          let other = other-two _ k y m z _ hk hm py hy pz hz c.requires.1 E _ locator.ensures _ _ _ _ c.requires.0 root rest in
-          let value = value-two _ k y m z _ hk hm py hy pz hz c.requires.1 E _ locator.ensures _ _ _ other c.plus_times.ensures c.divided-y.ensures in
-          errors-equal (top-two _ k y m z _ hk hm py hy pz hz c.requires.1 E _ locator.ensures _ root) value (log-two _ k y m z _ hk hm py hy pz hz c.requires.1 E _ locator.ensures _ _ _ _ _ c.requires.0 root rest c.log_in-m.ensures.0)
-          (left-two _ k y m z _ hk hm py hy pz hz c.requires.1 E _ locator.ensures _ _ value c.sum.ensures) refl refl;
+          let top = top-two _ k y m z _ hk hm py hy pz hz c.requires.0 E _ l.ensures _ c.in_ok-first.ensures in
+          let other = other-two _ k y m z _ hk hm py hy pz hz c.requires.0 E _ l.ensures _ _ top (c.sum-z.ensures ∙ ap (λ (p : ℕ). p ⊕ l.result.a) c.power.ensures) in
+          let value = value-two _ k y m z _ hk hm py hy pz hz c.requires.0 E _ l.ensures _ _ _ other c.plus_times.ensures c.quotient-y.ensures in
+          record {
+            places = same-cons top (same-cons (c.in_ok-second.ensures.at m (omega arith) other) refl);
+            values = same-cons value (same-cons (left-two _ k y m z _ hk hm py hy pz hz c.requires.0 E _ l.ensures _ _ value c.sum.ensures) refl);
+          };
     }

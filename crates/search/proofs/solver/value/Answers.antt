@@ -1,20 +1,26 @@
--- `search::solver::value` meets its contract: by Horner's rule.
+-- `search::solver::value` meets its contract: a byte at a time.
 -- Assumes nothing.
+use borrow.Author.Rules.{rules}
 use mir.Val.{Fits}
 use mir.Syntax.{w8}
-use mathlib.Core.Path.{◌≡◌}
-use mathlib.Core.List.{List}
-use Prim.Native.Nat.{ℕ, ◌<◌}
-use lib.ListN.{length, get_or}
-use Rattle.rs.proofs.Laws.Polynomial.{value-six}
-use Rattle.basics.proofs.Laws.Below.{at-below}
-use borrow.Author.Rules.{rules}
+use mathlib.Core.Path.{ap, ◌∙◌}
+use Prim.Native.Nat.{ℕ}
+use lib.ListN.{get_or}
+use lib.Seq.{take_all}
+use Rattle.gf256.specs.Field.{◌⊕◌}
+use Rattle.rs.specs.Polynomial.{value_at}
+use Rattle.rs.proofs.Laws.Polynomial.{value-none, value-more}
 use Rattle.search.proofs.solver.value.Goals as goal
 
+pub loop-byte-init : goal.loop-byte-init
+loop-byte-init c = value-none c.args.x c.args.bytes
+
+pub loop-byte-preserved : goal.loop-byte-preserved
+loop-byte-preserved c =
+    let l = c.loop-byte in
+    let b : Fits w8 (get_or c.args.bytes l.byte-index 0) = search rules in
+    c.sum-v.ensures ∙ ap (λ (p : ℕ). p ⊕ get_or c.args.bytes l.byte-index 0) c.product.ensures
+    ∙ value-more c.args.x c.args.bytes l.v l.byte-index (search rules) b.fits l.invariant
+
 pub returns : goal.returns
-returns c =
-    let l : List ℕ = c.args.bytes in
-    let n : length l ≡ 6 = search rules in
-    let h : (i : ℕ) → get_or l i 0 < 256 = λ i. let b : Fits w8 (get_or l i 0) = search rules in b.fits in
-    value-six c.args.x l _ _ _ _ _ n (at-below 256 l h) c.plus_times-a.ensures c.plus_times-b.ensures c.plus_times-c.ensures
-    c.plus_times-d.ensures c.plus_times.ensures
+returns c = let l = c.loop-byte in l.invariant ∙ ap (value_at c.args.x) (take_all l.byte-index c.args.bytes (search rules))

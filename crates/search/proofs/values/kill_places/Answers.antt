@@ -1,15 +1,23 @@
 -- `search::values::kill_places` meets its contract: a place at a time.
 -- Assumes nothing.
 use borrow.Author.Rules.{rules}
-use native.Mathlib.Omega.{arith}
-use Rattle.search.proofs.Laws.Values.{killing-none, killing-more}
+use mathlib.Core.Path.{◌≡◌, ap, ◌∙◌}
+use lib.ListN.{length}
+use Rattle.gf256.specs.Field.{pow}
+use Rattle.search.specs.Values.{exponents}
+use Rattle.search.proofs.Laws.Values.{exponents-long, exponent-at, killing-none, killing-more, killing-all}
 use Rattle.search.proofs.values.kill_places.Goals as goal
 
 pub loop-i-init : goal.loop-i-init
-loop-i-init c = killing-none _ _ _ _ (search rules)
+loop-i-init c = killing-none c.args.n (exponents c.args.places) c.args.s _ (search rules)
 
 pub loop-i-preserved : goal.loop-i-preserved
 loop-i-preserved c =
     let l = c.loop-i in
-    let p = c.requires in
-    killing-more _ _ _ _ _ _ _ _ l.invariant (search rules) (search rules) (search rules) (p.0.wheel.at _ (omega (arith, p.2.at l.i))) c.killed-next.ensures
+    let ps = c.args.places in
+    let n : length c.args.places ≡ 6 = search rules in
+    killing-more c.args.n (exponents ps) c.args.s l.firsts l.left _ l.i _ l.invariant c.loop-i-test.true c.requires (exponents-long ps ∙ n)
+    (c.power.ensures ∙ ap (pow 2) (exponent-at ps l.i _ (search rules))) c.killed-next.ensures
+
+pub returns : goal.returns
+returns c = let l = c.loop-i in killing-all c.args.n (exponents c.args.places) c.args.s l.firsts l.left l.i l.invariant c.loop-i-test.false

@@ -1,11 +1,8 @@
 -- `search::values::kill_places` meets its contract: a place at a time.
 -- Assumes nothing.
-use Prim.Native.Nat.{◌-◌}
+use Rattle.search.specs.Values.{exponents}
 use Rattle.search.proofs.Laws.Values.{Killing}
 use Rattle.search.proofs.values.kill_places.Given as goal
 
 abbrev pub invariant-loop-i : goal.invariant-loop-i
-invariant-loop-i l = Killing l.n l.places l.initial.left l.firsts l.left l.i
-
-abbrev pub decreases-loop-i : goal.decreases-loop-i
-decreases-loop-i l = l.n - l.i
+invariant-loop-i l = Killing l.n (exponents l.fn.places) l.initial.left l.firsts l.left l.i

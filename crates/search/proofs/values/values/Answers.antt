@@ -1,23 +1,39 @@
 -- `search::values::values` meets its contract: from the last place to the first.
 -- Assumes nothing.
 use borrow.Author.Rules.{rules}
-use mathlib.Core.Path.{◌≡◌, subst}
-use Prim.Native.Nat.{suc, ◌-◌}
+use mathlib.Core.Path.{◌≡◌, sym, ap, ◌∙◌, subst}
+use Prim.Native.Nat.{ℕ, suc, ◌-◌}
 use native.Mathlib.Omega.{arith}
-use Rattle.search.proofs.Laws.Values.{Valued, valued-none, valued-more, valued-all}
+use lib.ListN.{length}
+use Rattle.gf256.specs.Field.{pow}
+use Rattle.search.specs.Values.{exponents}
+use Rattle.search.proofs.Laws.Values.{exponents-long, exponent-at, unscaled-all, Valued, valued-none, valued-more, valued-all}
 use Rattle.search.proofs.values.values.Goals as goal
 
 pub loop-i-init : goal.loop-i-init
-loop-i-init c = (search rules, λ s F. valued-none _ s _ (search rules))
+loop-i-init c =
+    let n : length c.args.places ≡ 6 = search rules in
+    λ s F. valued-none c.args.n s (exponents c.args.places) (exponents-long c.args.places ∙ n)
 
 pub loop-i-preserved : goal.loop-i-preserved
 loop-i-preserved c =
     let l = c.loop-i in
-    let e : l.i ≡ suc (l.i - 1) = omega arith in (
-      search rules,
-      λ s F. valued-more _ s _ _ _ (l.i - 1) _ (search rules) (search rules) (c.requires.0.wheel.at _ (omega (arith, c.requires.2.at (l.i - 1)))) c.unscaled-before.ensures
-          (subst (Valued c.args.n s c.args.places l.v) e (l.invariant.1 s F)) c.kill_places-killed.result.firsts _ _ F c.sum6.ensures c.sum.ensures,
-    )
+    let ps = c.args.places in
+    let m : ℕ = l.i - 1 in
+    let n : length c.args.places ≡ 6 = search rules in
+    let v : length c.loop-i.v ≡ 6 = search rules in
+    let six : length (exponents ps) ≡ 6 = exponents-long ps ∙ n in
+    let e : l.i ≡ suc m = omega arith in
+    λ s F.
+    valued-more c.args.n s (exponents ps) l.v c.unscale.new.v m _ (omega arith) (omega arith) (c.power.ensures ∙ ap (pow 2) (exponent-at ps m _ (omega arith)))
+    (unscaled-all 6 _ (exponents ps) l.v c.unscale.new.v (v ∙ sym six) (omega arith) c.unscale.ensures)
+    (subst (Valued c.args.n s (exponents ps) l.v) e (l.invariant s F)) c.kill_places.result.firsts _ _ F c.sum_of.ensures c.sum.ensures
 
 pub returns : goal.returns
-returns c = valued-all _ _ _ _ _ (search rules) (search rules) (search rules) (c.loop-i.invariant.1 _ c.kill_places-killed.ensures.firsts)
+returns c =
+    let l = c.loop-i in
+    let ps = c.args.places in
+    let n : length c.args.places ≡ 6 = search rules in
+    let six : length (exponents ps) ≡ 6 = exponents-long ps ∙ n in
+    let z : l.i ≡ 0 = omega arith in
+    valued-all c.args.n c.args.s (exponents ps) l.v l.i c.requires (omega arith) z (l.invariant c.args.s c.kill_places.ensures.firsts)

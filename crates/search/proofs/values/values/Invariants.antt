@@ -1,12 +1,10 @@
 -- `search::values::values` meets its contract: from the last place to the first.
 -- Assumes nothing.
 use mathlib.Core.List.{List}
-use Prim.Native.Nat.{ℕ, ◌≤◌}
+use Prim.Native.Nat.{ℕ}
+use Rattle.search.specs.Values.{exponents}
 use Rattle.search.proofs.Laws.Values.{Noted, Valued}
 use Rattle.search.proofs.values.values.Given as goal
 
 abbrev pub invariant-loop-i : goal.invariant-loop-i
-invariant-loop-i l = (l.i ≤ l.n) × ((s : List ℕ) → Noted l.n l.places s l.firsts → Valued l.n s l.places l.v l.i)
-
-abbrev pub decreases-loop-i : goal.decreases-loop-i
-decreases-loop-i l = l.i
+invariant-loop-i l = (s : List ℕ) → Noted l.fn.n (exponents l.fn.places) s l.firsts → Valued l.fn.n s (exponents l.fn.places) l.v l.i

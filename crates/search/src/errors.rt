@@ -1,0 +1,16 @@
+// A place in a block, and an error there.
+ghost use Rattle.std.specs.Prelude.{◌<◌};
+
+// A place, by its exponent k: it is the field's element 2^k, from 253 for the first byte to 0 for the last.
+#[derive(Clone, Copy)]
+pub(crate) struct Place {
+    pub(crate) exponent: usize,
+    ghost within: { exponent < 254 },
+}
+
+// A value at a place; a value of 0 is no error.
+#[derive(Clone, Copy)]
+pub(crate) struct Error {
+    pub(crate) place: Place,
+    pub(crate) value: u8,
+}
