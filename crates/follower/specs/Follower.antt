@@ -1,6 +1,6 @@
 -- The follower: what is counted, what the follower is and has heard after a packet, and which record it shows.
 -- Assumes nothing.
-use Rattle.std.specs.Prelude.{Bool, true, false, cond, not, ◌&&◌, List, ℕ, ◌+◌, eqb, leb, length, replicate}
+use Rattle.std.specs.Prelude.{Bool, true, false, cond, not, ◌&&◌, List, ℕ, ◌+◌, eqb, leb, length, replicate, Result, Ok, Err}
 use Rattle.std.proofs.Math.Option.{Option, none, some}
 use Rattle.refusal.specs.declared.Refusal.{Refusal}
 use Rattle.refusal.specs.declared.Reason.TheVariants.{Room}
@@ -15,23 +15,16 @@ use Rattle.reading.specs.declared.Packet.{Packet}
 use Rattle.reading.specs.Reading.{read_refusal, read_record}
 use Rattle.reading.specs.Answer.{packet_of}
 use Rattle.follower.specs.declared.Arrival.{Arrival}
-use Rattle.follower.specs.declared.Heard.{Heard}
-use Rattle.follower.specs.declared.Heard.TheVariants.{Accepted, Refused}
 use Rattle.follower.specs.declared.Held.{Held}
 use Rattle.follower.specs.declared.Follower.{Follower}
 use Rattle.follower.specs.declared.Followed.{Followed}
 
 -- ---- what an answer says, for every case of it
 
--- the refusal, which has its number and its place
-abbrev pub refusal_in : Heard → Option Refusal
-refusal_in (Accepted a) = none
-refusal_in (Refused why) = some why
-
 -- the arrival, whose kind is FIRST, NEXT, REPEAT or CONFLICT
-abbrev pub arrival_in : Heard → Option Arrival
-arrival_in (Accepted a) = some a
-arrival_in (Refused why) = none
+abbrev pub arrival_in : Result Arrival Refusal → Option Arrival
+arrival_in (Ok a) = some a
+arrival_in (Err why) = none
 
 -- ---- counts
 
@@ -94,7 +87,7 @@ unfoldable pub accepts : Follower → Packet → List ℕ → Followed
 accepts f p arrived =
     record {
       follower = follower_after f (arrival_of f p arrived) (before_again f p arrived) arrived;
-      heard = Accepted (arrival_of f p arrived);
+      heard = Ok (arrival_of f p arrived);
     }
 
 -- ---- a packet that is refused
@@ -114,7 +107,7 @@ refused_after f =
     }
 
 unfoldable pub refuses : Follower → Refusal → Followed
-refuses f why = record { follower = refused_after f; heard = Refused why }
+refuses f why = record { follower = refused_after f; heard = Err why }
 
 -- ---- the calls
 

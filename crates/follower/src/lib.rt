@@ -3,14 +3,15 @@
 
 ghost use Rattle.std.specs.Prelude.{◌≡◌, length};
 ghost use Rattle.refusal.specs.Checked.{checked_of};
-ghost use Rattle.follower.specs.Follower.{counted, before_again, arrived_as, arrival_of, held_by, follower_after, accepts, refused_after, followed, opened, shown_by, shown_refusal, shown_leaves};
+ghost use Rattle.follower.specs.Follower.{before_again, arrived_as, arrival_of, held_by, follower_after, accepts, refused_after, followed, opened, shown_by, shown_refusal, shown_leaves};
 
-use refusal::{Checked, Reason};
+use reading::Packet;
+use refusal::{Reason, Refusal};
 use sequence::{Kind, counts, onsets};
 
 // What an accepted packet brings: its kind, its index, how many of its words were fixed, how many packets were missed before it, and
 // the triggers that it sets, Q1 in bit 0 to Q32 in bit 31.
-#[derive(Clone, Copy)]
+#[derive(Clone, Copy, Debug, PartialEq, Eq)]
 pub struct Arrival {
     pub kind: Kind,
     pub ci: u8,
@@ -19,17 +20,10 @@ pub struct Arrival {
     pub onsets: u32,
 }
 
-// What a follower hears in a packet.
-#[derive(Clone, Copy)]
-pub enum Heard {
-    Accepted(Arrival),
-    Refused(refusal::Refusal),
-}
-
 // The record at the last position and its index, the record before it, and whether the two were successive: the one at the position arrived
 // as NEXT with nothing missed.
 #[repr(C)]
-#[derive(Clone, Copy)]
+#[derive(Clone, Copy, Debug, PartialEq, Eq)]
 pub struct Held {
     pub at: [u8; 248],
     pub ci: u8,
@@ -40,7 +34,7 @@ pub struct Held {
 // Has a packet been accepted; the two records; `back`: is the one before shown, and not the one at the position? And the counts, which stop at the
 // ceiling.
 #[repr(C)]
-#[derive(Clone, Copy)]
+#[derive(Clone, Copy, Debug, PartialEq, Eq)]
 pub struct Follower {
     pub started: bool,
     pub held: Held,
@@ -53,58 +47,43 @@ pub struct Follower {
 }
 
 // The follower handed back, and what it heard.
-#[derive(Clone, Copy)]
+#[derive(Clone, Copy, Debug, PartialEq, Eq)]
 pub struct Followed {
     pub follower: Follower,
-    pub heard: Heard,
+    pub heard: Result<Arrival, Refusal>,
 }
 
-// So many more, up to the ceiling.
-fn count(n: u32, more: u32) -> u32
-    ensures { result ≡ counted n more }
-{
-    if Follower::CEILING - n < more {
-        return Follower::CEILING;
-    }
-    n + more
-}
-
-// What is held after an arrival, by its kind.
-fn held_by(held: Held, arrival: Arrival, arrived: [u8; 248]) -> Held
-    ensures { result ≡ held_by arrival.kind held arrival arrived }
-{
-    let kind = arrival.kind;
-    match kind {
-        Kind::First => Held {
-            at: arrived,
-            ci: arrival.ci,
-            before: [0u8; 248],
-            successive: false,
-        },
-        Kind::Next => {
-            let at = held.at;
-            Held {
+impl Held {
+    // What is held after an arrival, by its kind.
+    fn after(self, arrival: Arrival, arrived: [u8; 248]) -> Self
+        ensures { result ≡ held_by arrival.kind self arrival arrived }
+    {
+        let last = self.at;
+        match arrival.kind {
+            Kind::First => Held {
                 at: arrived,
                 ci: arrival.ci,
-                before: at,
+                before: [0; 248],
+                successive: false,
+            },
+            Kind::Next => Held {
+                at: arrived,
+                ci: arrival.ci,
+                before: last,
                 successive: arrival.missed == 0,
-            }
-        }
-        Kind::Repeat => held,
-        Kind::Conflict => {
-            let before = held.before;
-            Held {
+            },
+            Kind::Repeat => self,
+            Kind::Conflict => Held {
                 at: arrived,
                 ci: arrival.ci,
-                before,
-                successive: held.successive,
-            }
+                ..self
+            },
         }
     }
 }
 
 impl Follower {
-    pub const CEILING: u32 = 4294967295;
+    pub const CEILING: u32 = u32::MAX;
 
     // Nothing has arrived.
     #[tactic(auto, unfolding(crate::specs::Follower::opened))]
@@ -114,9 +93,9 @@ impl Follower {
         Follower {
             started: false,
             held: Held {
-                at: [0u8; 248],
+                at: [0; 248],
                 ci: 0,
-                before: [0u8; 248],
+                before: [0; 248],
                 successive: false,
             },
             back: false,
@@ -132,13 +111,12 @@ impl Follower {
     pub fn follow(self, words: &[u16]) -> Followed
         ensures { result ≡ followed self words.now }
     {
-        let mut arrived = [0u8; 248];
-        let reading = reading::read_packet_into(words, &mut arrived);
-        match reading {
-            reading::Reading::Accepted(p) => self.accept(p, arrived),
-            reading::Reading::Refused(why) => Followed {
+        let mut arrived = [0; 248];
+        match reading::read_packet_into(words, &mut arrived) {
+            Ok(packet) => self.accept(packet, arrived),
+            Err(why) => Followed {
                 follower: self.refuse(),
-                heard: Heard::Refused(why),
+                heard: Err(why),
             },
         }
     }
@@ -148,130 +126,104 @@ impl Follower {
     pub fn shown(self) -> [u8; 248]
         ensures { result ≡ shown_by self }
     {
-        let held = self.held;
         if self.back {
-            return held.before;
+            self.held.before
+        } else {
+            self.held.at
         }
-        held.at
     }
 
     // The record shown, into lent room. A refusal leaves `out` as it was.
     #[tactic(auto, unfolding(crate::specs::Follower::shown_refusal, crate::specs::Follower::shown_leaves))]
-    pub fn shown_into(self, out: &mut [u8]) -> Checked
+    pub fn shown_into(self, out: &mut [u8]) -> Result<(), Refusal>
         ensures { (result ≡ checked_of (shown_refusal (length out.old))) × (out.new ≡ shown_leaves self out.old) }
     {
-        if out.len() != 248 {
-            return Checked::Refused(refusal::plain(Reason::Room));
-        }
-        let shown = self.shown();
-        let mut i = 0;
-        while i < 248 {
-            out[i] = shown[i];
-            i += 1;
-        }
-        Checked::Passed
+        refusal::require(out.len() == 248, refusal::plain(Reason::Room))?;
+        out.copy_from_slice(&self.shown());
+        Ok(())
     }
 
     // What follows on a packet that is accepted.
     #[tactic(auto, unfolding(crate::specs::Follower::accepts))]
-    fn accept(self, p: reading::Packet, arrived: [u8; 248]) -> Followed
-        ensures { result ≡ accepts self p arrived }
+    fn accept(self, packet: Packet, arrived: [u8; 248]) -> Followed
+        ensures { result ≡ accepts self packet arrived }
     {
-        let again = self.before_again(p, arrived);
-        let arrival = self.arrival(p, again, arrived);
+        let again = self.before_again(packet, arrived);
+        let arrival = self.arrival(packet, again, arrived);
         Followed {
             follower: self.hold(arrival, again, arrived),
-            heard: Heard::Accepted(arrival),
+            heard: Ok(arrival),
         }
     }
 
     // Is the packet the one before again?
-    #[tactic(auto, unfolding(crate::specs::Follower::step_to, crate::specs::Follower::before_again))]
-    fn before_again(self, p: reading::Packet, arrived: [u8; 248]) -> bool
-        ensures { result ≡ before_again self p arrived }
+    #[tactic(auto, using(crate::proofs::Laws::Again::equal_lists), unfolding(crate::specs::Follower::step_to, crate::specs::Follower::before_again))]
+    fn before_again(self, packet: Packet, arrived: [u8; 248]) -> bool
+        ensures { result ≡ before_again self packet arrived }
     {
-        let held = self.held;
-        if !self.started {
-            return false;
-        }
-        if !held.successive {
-            return false;
-        }
-        if sequence::step_of(held.ci, p.ci) != 15 {
-            return false;
-        }
-        let old = held.before;
-        sequence::same(&old, &arrived)
+        self.started
+            && self.held.successive
+            && sequence::step_of(self.held.ci, packet.ci) == 15
+            && self.held.before == arrived
     }
 
     // The packet's kind; `again` says whether it is the one before.
-    #[tactic(auto, unfolding(crate::specs::Follower::arrived_as, crate::specs::Follower::step_to))]
-    fn kind(self, p: reading::Packet, again: bool, arrived: [u8; 248]) -> Kind
-        requires { again ≡ before_again self p arrived }
-        ensures { result ≡ arrived_as self p arrived }
+    #[tactic(auto, using(crate::proofs::Laws::Again::equal_lists), unfolding(crate::specs::Follower::arrived_as, crate::specs::Follower::step_to))]
+    fn kind(self, packet: Packet, again: bool, arrived: [u8; 248]) -> Kind
+        requires { again ≡ before_again self packet arrived }
+        ensures { result ≡ arrived_as self packet arrived }
     {
         if again {
             return Kind::Repeat;
         }
-        let held = self.held;
-        let at = held.at;
-        let d = sequence::step_of(held.ci, p.ci);
-        sequence::kind_of(self.started, d, sequence::same(&at, &arrived))
+        let step = sequence::step_of(self.held.ci, packet.ci);
+        sequence::kind_of(self.started, step, self.held.at == arrived)
     }
 
     // What the packet brings, against the record at the position.
     #[tactic(auto, unfolding(crate::specs::Follower::arrival_of, crate::specs::Follower::step_to))]
-    fn arrival(self, p: reading::Packet, again: bool, arrived: [u8; 248]) -> Arrival
-        requires { again ≡ before_again self p arrived }
-        ensures { result ≡ arrival_of self p arrived }
+    fn arrival(self, packet: Packet, again: bool, arrived: [u8; 248]) -> Arrival
+        requires { again ≡ before_again self packet arrived }
+        ensures { result ≡ arrival_of self packet arrived }
     {
-        let held = self.held;
-        let old = held.at;
-        let kind = self.kind(p, again, arrived);
-        let d = sequence::step_of(held.ci, p.ci);
+        let old = self.held.at;
+        let kind = self.kind(packet, again, arrived);
+        let step = sequence::step_of(self.held.ci, packet.ci);
         Arrival {
             kind,
-            ci: p.ci,
-            fixed: p.fixed,
-            missed: sequence::missed_of(kind, d),
-            onsets: onsets::onsets(self.started & !again, &old, &arrived),
+            ci: packet.ci,
+            fixed: packet.fixed,
+            missed: sequence::missed_of(kind, step),
+            onsets: onsets::onsets(self.started && !again, &old, &arrived),
         }
     }
 
     // The arrival is counted, and its record held and shown.
-    #[tactic(auto, unfolding(crate::specs::Follower::follower_after))]
+    #[tactic(auto, unfolding(crate::specs::Follower::follower_after, crate::specs::Follower::counted))]
     fn hold(self, arrival: Arrival, again: bool, arrived: [u8; 248]) -> Self
         ensures { result ≡ follower_after self arrival again arrived }
     {
         let kind = arrival.kind;
-        let held = self.held;
         Follower {
             started: true,
-            held: held_by(held, arrival, arrived),
+            held: self.held.after(arrival, arrived),
             back: again,
-            accepted: count(self.accepted, 1),
-            repeated: count(self.repeated, counts::repeats(kind)),
-            conflicting: count(self.conflicting, counts::conflicts(kind)),
-            missed: count(self.missed, arrival.missed as u32),
+            accepted: self.accepted.saturating_add(1),
+            repeated: self.repeated.saturating_add(counts::repeats(kind)),
+            conflicting: self.conflicting.saturating_add(counts::conflicts(kind)),
+            missed: self.missed.saturating_add(u32::from(arrival.missed)),
             refused: self.refused,
         }
     }
 
     // One more is refused, and nothing else changes.
-    #[tactic(auto, unfolding(crate::specs::Follower::refused_after))]
+    #[tactic(auto, unfolding(crate::specs::Follower::refused_after, crate::specs::Follower::counted))]
     fn refuse(self) -> Self
         ensures { result ≡ refused_after self }
     {
-        let held = self.held;
         Follower {
-            started: self.started,
-            held,
-            back: self.back,
-            accepted: self.accepted,
-            repeated: self.repeated,
-            conflicting: self.conflicting,
-            missed: self.missed,
-            refused: count(self.refused, 1),
+            refused: self.refused.saturating_add(1),
+            ..self
         }
     }
 }

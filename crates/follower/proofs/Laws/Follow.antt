@@ -5,9 +5,11 @@ use mathlib.Core.Bool.{Bool, true, false, cond, not, ◌&&◌}
 use mathlib.Core.List.{List}
 use mathlib.Core.Option.{Option, none, some, some-ne-none}
 use Prim.Native.Nat.{ℕ, suc, ◌+◌, ◌%◌, ◌≤◌, ◌<◌}
+use Rattle.std.specs.Prelude.{Ok, Err}
 use native.Mathlib.Omega.{arith}
 use lib.Dec.{eqb}
 use lib.ListN.{replicate}
+use Rattle.refusal.specs.Checked.{refusal_in}
 use Rattle.refusal.specs.declared.Refusal.{Refusal}
 use Rattle.basics.specs.Each.{same}
 use Rattle.basics.proofs.Laws.Test.{never}
@@ -21,18 +23,17 @@ use Rattle.reading.specs.declared.Packet.{Packet}
 use Rattle.reading.specs.Reading.{index_of, read_fixed, read_refusal, read_record}
 use Rattle.reading.specs.Answer.{packet_of}
 use Rattle.follower.specs.declared.Arrival.{Arrival}
-use Rattle.follower.specs.declared.Heard.TheVariants.{Accepted, Refused}
 use Rattle.follower.specs.declared.Held.{Held}
 use Rattle.follower.specs.declared.Follower.{Follower}
 use Rattle.follower.specs.declared.Followed.{Followed}
-use Rattle.follower.specs.Follower.{ceiling, counted, step_to, before_again, arrived_as, arrival_of, held_by, follower_after, accepts, refused_after, refuses, followed_by, followed, opened, shown_by, refusal_in}
+use Rattle.follower.specs.Follower.{ceiling, counted, step_to, before_again, arrived_as, arrival_of, held_by, follower_after, accepts, refused_after, refuses, followed_by, followed, opened, shown_by}
 use Rattle.follower.proofs.Laws.Count.{counted-le}
 use Rattle.follower.proofs.Laws.Again.{Again, again-so, so-again, not-again, again-kind, other-kind, onsets-self}
 
 -- ---- a packet that is refused
 
 -- nothing but the count of refusals moves, and the answer is the refusal
-pub refused-alone : (f : Follower) (ws : List ℕ) (why : Refusal) → read_refusal ws ≡ some why → followed f ws ≡ record { follower = refused_after f; heard = Refused why }
+pub refused-alone : (f : Follower) (ws : List ℕ) (why : Refusal) → read_refusal ws ≡ some why → followed f ws ≡ record { follower = refused_after f; heard = Err why }
 unfolding followed refuses
 refused-alone f ws why e = ap (λ (o : Option Refusal). followed_by o f (packet_of ws) (read_record ws)) e
 
@@ -65,7 +66,7 @@ pub record Holds (f : Follower) (ws : List ℕ) : Type 0 where
 
 -- an arrival of kind k, after m missed ones, with these onsets: what is heard, what is held then, and what is counted
 pub record Arrived (f : Follower) (ws : List ℕ) (k : Kind) (m o : ℕ) (then : Held) : Type 0 where
-  pub heard : (followed f ws).heard ≡ Accepted (record { kind = k; ci = index_of ws; fixed = read_fixed ws; missed = m; onsets = o })
+  pub heard : (followed f ws).heard ≡ Ok (record { kind = k; ci = index_of ws; fixed = read_fixed ws; missed = m; onsets = o })
   pub held : (followed f ws).follower.held ≡ then
   pub repeated : (followed f ws).follower.repeated ≡ counted f.repeated (repeats_in k)
   pub conflicting : (followed f ws).follower.conflicting ≡ counted f.conflicting (conflicts_in k)
@@ -121,7 +122,7 @@ module _ (f : Follower) (ws : List ℕ) (ok : read_refusal ws ≡ none) where
     arrived : Arrived f ws k m o (held_by k f.held a r)
     unfolding accepts follower_after
     arrived =
-        let e : followed f ws ≡ record { follower = follower_after f a again r; heard = Accepted a } = taken ∙ (λ i. record { follower = follower_after f (arrival-is i) (ea i) r; heard = Accepted (arrival-is i) }) in
+        let e : followed f ws ≡ record { follower = follower_after f a again r; heard = Ok a } = taken ∙ (λ i. record { follower = follower_after f (arrival-is i) (ea i) r; heard = Ok (arrival-is i) }) in
         record {
           heard = ap (λ (x : Followed). x.heard) e;
           held = ap (λ (x : Followed). x.follower.held) e;

@@ -6,13 +6,13 @@ use Rattle.follower.specs.Follower.{refuses}
 use Rattle.follower.proofs.Laws.Read.{follow-accepted, follow-refused}
 use Rattle.follower.proofs.Follower.follow.Goals as goal
 
-pub returns-in-Accepted : goal.returns-in-Accepted
-returns-in-Accepted c =
-    let read = c.read_packet_into-reading.ensures in
-    c.accept.ensures ∙ follow-accepted _ _ _ _ refl read.0 _ _ c.in-Accepted.is read.1
+pub returns-in-Ok : goal.returns-in-Ok
+returns-in-Ok c =
+    let read = c.read_packet_into.ensures in
+    c.accept.ensures ∙ follow-accepted _ _ _ _ refl read.0 _ _ c.in-Ok.is read.1
 
-pub returns-in-Refused : goal.returns-in-Refused
+pub returns-in-Err : goal.returns-in-Err
 unfolding refuses
-returns-in-Refused c =
-    let read = c.read_packet_into-reading.ensures in
-    rw c.refuse.ensures (follow-refused _ _ (replicate 248 0) _ refl read.0 _ c.in-Refused.is)
+returns-in-Err c =
+    let read = c.read_packet_into.ensures in
+    rw c.refuse.ensures (follow-refused _ _ (replicate 248 0) _ refl read.0 _ c.in-Err.is)
