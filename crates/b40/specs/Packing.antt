@@ -1,4 +1,4 @@
--- Packing: what it is refused for, in the order of the checks, what it answers and what it leaves. The answer is that of writing a packet.
+-- Packing: what it is refused for, in the order of the checks, what it answers and what it leaves.
 -- Assumes nothing.
 use Rattle.std.specs.Prelude.{Bool, List, ℕ, eqb, length}
 use Rattle.std.proofs.Math.Option.{Option}
@@ -7,8 +7,7 @@ use Rattle.refusal.specs.Number.{refusal_plain}
 use Rattle.refusal.specs.declared.Reason.TheVariants.{Length, Wide, Flag, FieldHead, Room}
 use Rattle.refusal.specs.declared.Refusal.{Refusal}
 use Rattle.anc.specs.Words.{has_flag, narrow}
-use Rattle.writing.specs.Written.{written_by}
-use Rattle.writing.specs.declared.Written.{Written}
+use Rattle.refusal.specs.Checked.{Checked, checked_of}
 use Rattle.b40.specs.Field.{is_place, field_of}
 
 -- 1, 2, 3, 26, 23: the words, the line and offset, and room for so many bytes
@@ -19,9 +18,9 @@ pack_refusal line offset words room =
     (require (has_flag words) (refusal_plain Flag)
     (require (is_place line offset) (refusal_plain FieldHead) (require (eqb room 328) (refusal_plain Room) passed))))
 
--- the answer; what it says is in `refusal_in` of the packet's writing
-unfoldable pub packed_of : ℕ → ℕ → List ℕ → ℕ → Written
-packed_of line offset words room = written_by (pack_refusal line offset words room)
+-- the answer
+unfoldable pub packed_of : ℕ → ℕ → List ℕ → ℕ → Checked
+packed_of line offset words room = checked_of (pack_refusal line offset words room)
 
 -- what is left in the lent buffer: the field, or what was there
 unfoldable pub pack_leaves : Bool → ℕ → ℕ → List ℕ → List ℕ → List ℕ

@@ -1,27 +1,21 @@
 -- Unpacking: what it is refused for, in the order of the checks, what it answers and leaves, and what each of its answers says.
 -- Assumes nothing.
-use Rattle.std.specs.Prelude.{◌&&◌, List, ℕ, eqb, length}
+use Rattle.std.specs.Prelude.{Result, Ok, Err, ◌&&◌, List, ℕ, eqb, length}
 use Rattle.std.proofs.Math.Option.{Option, none, some}
 use Rattle.refusal.specs.Chain.{require, passed, left_by}
+use Rattle.refusal.specs.Checked.{answer_of}
 use Rattle.refusal.specs.Number.{refusal_plain}
 use Rattle.refusal.specs.declared.Reason.TheVariants.{FieldLength, FieldHead, Room}
 use Rattle.refusal.specs.declared.Refusal.{Refusal}
 use Rattle.b40.specs.declared.Head.{Head}
-use Rattle.b40.specs.declared.Unpacked.{Unpacked}
-use Rattle.b40.specs.declared.Unpacked.TheVariants.{Done, Refused}
 use Rattle.b40.specs.Field.{part, yc_of, line_of, offset_of, words_of, is_place}
 
--- ---- what an answer says, for every case of it
-
--- the refusal, which has its number and its place
-abbrev pub refusal_in : Unpacked → Option Refusal
-refusal_in (Done h) = none
-refusal_in (Refused why) = some why
+-- ---- what an answer says, for every case of it; its refusal is `refusal_in`
 
 -- Y/C, line and offset
-abbrev pub head_in : Unpacked → Option Head
-head_in (Done h) = some h
-head_in (Refused why) = none
+abbrev pub head_in : Result Head Refusal → Option Head
+head_in (Ok h) = some h
+head_in (Err why) = none
 
 -- ---- the answer
 
@@ -36,14 +30,9 @@ unpack_refusal field room =
 unfoldable pub head_of : List ℕ → Head
 head_of field = record { yc = yc_of field; line = line_of field; offset = offset_of field }
 
--- the refusal where there is one, else the head
-abbrev pub unpacked_by : Option Refusal → Head → Unpacked
-unpacked_by none h = Done h
-unpacked_by (some why) h = Refused why
-
--- into room for so many words
-unfoldable pub unpacked_of : List ℕ → ℕ → Unpacked
-unpacked_of field room = unpacked_by (unpack_refusal field room) (head_of field)
+-- into room for so many words: the refusal where there is one, else the head
+unfoldable pub unpacked_of : List ℕ → ℕ → Result Head Refusal
+unpacked_of field room = answer_of (unpack_refusal field room) (head_of field)
 
 -- what is left in the lent buffer: the words, or what was there
 unfoldable pub unpack_leaves : List ℕ → List ℕ → List ℕ

@@ -25,14 +25,12 @@ fn fill_bytes(words: &[u16], out: &mut [u8])
     requires { (narrow words.now ≡ true) × (length words.now ≡ 263) × (length out.old ≡ 328) }
     ensures { out.new ≡ numbers 328 8 (bits_each 10 words.now) }
 {
-    let mut i: usize = 0;
-    while i < 65 {
+    for i in 0..65 {
         out[5 * i] = byte(words, 4 * i, 0);
         out[5 * i + 1] = byte(words, 4 * i, 8);
         out[5 * i + 2] = byte(words, 4 * i + 1, 6);
         out[5 * i + 3] = byte(words, 4 * i + 2, 4);
         out[5 * i + 4] = byte(words, 4 * i + 3, 2);
-        i += 1;
     }
     out[325] = byte(words, 260, 0);
     out[326] = byte(words, 260, 8);
@@ -50,11 +48,7 @@ pub(crate) fn write_bytes(yc: bool, line: u16, offset: u16, words: &[u16], out: 
         head += 0x800000;
     }
     let mut all: [u16; 263] = [0x3C0; 263];
-    let mut i: usize = 0;
-    while i < 262 {
-        all[i] = words[i];
-        i += 1;
-    }
+    all[..262].copy_from_slice(words);
     all[0] = (head >> 20) as u16;
     all[1] = ((head >> 10) % 1024) as u16;
     all[2] = (head % 1024) as u16;
@@ -66,10 +60,7 @@ pub(crate) fn first(field: &[u8]) -> u32
     requires { 4 ≤ length field.now }
     ensures { result ≡ part field.now 0 32 }
 {
-    field[0] as u32 * 0x1000000
-        + field[1] as u32 * 0x10000
-        + field[2] as u32 * 0x100
-        + field[3] as u32
+    u32::from_be_bytes([field[0], field[1], field[2], field[3]])
 }
 
 // Ten bits of a field, from bit 8k + from on: they lie in byte k and the next.
@@ -85,13 +76,11 @@ pub(crate) fn write_words(field: &[u8], out: &mut [u16])
     requires { (length field.now ≡ 328) × (length out.old ≡ 262) }
     ensures { out.new ≡ words_of field.now }
 {
-    let mut i: usize = 0;
-    while i < 65 {
+    for i in 0..65 {
         out[4 * i] = word(field, 5 * i, 0);
         out[4 * i + 1] = word(field, 5 * i + 1, 2);
         out[4 * i + 2] = word(field, 5 * i + 2, 4);
         out[4 * i + 3] = word(field, 5 * i + 3, 6);
-        i += 1;
     }
     out[260] = word(field, 325, 0);
     out[261] = word(field, 326, 2);

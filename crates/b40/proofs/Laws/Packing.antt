@@ -7,11 +7,10 @@ use mathlib.Core.Option.{none}
 use Prim.Native.Nat.{ℕ}
 use borrow.Author.Tests.{eqb-true}
 use lib.ListN.{length, take}
-use Rattle.refusal.proofs.Laws.Chain.{require-passed}
+use Rattle.refusal.proofs.Laws.Chain.{require-passed, refusal-in}
 use Rattle.anc.specs.Words.{flag, narrow}
 use Rattle.anc.proofs.Laws.Words.{flag-words}
-use Rattle.writing.specs.Written.{refusal_in}
-use Rattle.writing.proofs.Laws.Writing.{said_in}
+use Rattle.refusal.specs.Checked.{refusal_in}
 use Rattle.b40.specs.Field.{is_place}
 use Rattle.b40.specs.Packing.{pack_refusal, packed_of}
 
@@ -41,4 +40,4 @@ accepts line offset words room ok =
 -- the refusal that an answer tells is the one that the rules give
 pub refusal-said : (line offset : ℕ) (words : List ℕ) (room : ℕ) → refusal_in (packed_of line offset words room) ≡ pack_refusal line offset words room
 unfolding packed_of
-refusal-said line offset words room = said_in (pack_refusal line offset words room)
+refusal-said line offset words room = refusal-in (pack_refusal line offset words room)

@@ -15,8 +15,7 @@ use Rattle.basics.specs.Each.{same}
 use Rattle.basics.proofs.Laws.Parts.{skip, last_one}
 use Rattle.basics.proofs.Laws.Test.{below_at as passes_at}
 use Rattle.anc.specs.Words.{has_flag, narrow, flag}
-use Rattle.writing.specs.declared.Written.TheVariants.{Done as DoneWriting}
-use Rattle.b40.specs.declared.Unpacked.TheVariants.{Done}
+use Rattle.std.specs.Prelude.{Ok}
 use Rattle.b40.specs.Field.{bits, bits_each, number_of, numbers, field_bits, field_of, bits_of, part, yc_of, line_of, offset_of, words_of, is_place}
 use Rattle.b40.specs.Packing.{pack_refusal, packed_of, pack_leaves}
 use Rattle.b40.specs.Unpacking.{unpack_refusal, head_of, unpacked_of, unpack_leaves}
@@ -112,13 +111,13 @@ module _ (yc : Bool) (line offset : ℕ) (words : List ℕ) (n : length words �
 
 -- where packing is not refused, unpacking what it leaves gives back Y/C, line, offset and the 262 words
 pub unpack-pack : (yc : Bool) (line offset : ℕ) (words old room : List ℕ) → pack_refusal line offset words (length old) ≡ none → length room ≡ 262
-    → (unpacked_of (pack_leaves yc line offset words old) (length room) ≡ Done (record { yc = yc; line = line; offset = offset }))
+    → (unpacked_of (pack_leaves yc line offset words old) (length room) ≡ Ok (record { yc = yc; line = line; offset = offset }))
     × (unpack_leaves (pack_leaves yc line offset words old) room ≡ words)
 unfolding pack_leaves unpacked_of unpack_leaves head_of
 unpack-pack yc line offset words old room ok m =
     let a = accepts line offset words (length old) ok in
     let open' = packed-accepted yc line offset words a.long a.place (length room) m in
-    rw (ok, open') (ap Done (head-back yc line offset words a.long a.place), words_back yc line offset words a.long a.tens a.flagged)
+    rw (ok, open') (ap Ok (head-back yc line offset words a.long a.place), words_back yc line offset words a.long a.tens a.flagged)
 
 -- ---- what is unpacked is packed
 
@@ -214,7 +213,7 @@ module _ (field : List ℕ) (b : Bytes field) (n : length field ≡ 328) (z : pa
 
 -- where unpacking is not refused, packing what it gives makes the same bytes, but for the pad, which becomes ones
 pub pack-unpack : (field room old : List ℕ) → Bytes field → unpack_refusal field (length room) ≡ none → length old ≡ 328
-    → (packed_of (head_of field).line (head_of field).offset (unpack_leaves field room) (length old) ≡ DoneWriting)
+    → (packed_of (head_of field).line (head_of field).offset (unpack_leaves field room) (length old) ≡ Ok tt)
     × (pack_leaves (head_of field).yc (head_of field).line (head_of field).offset (unpack_leaves field room) old ≡ padded field)
 unfolding packed_of pack_leaves unpack_leaves head_of
 pack-unpack field room old b ok m =

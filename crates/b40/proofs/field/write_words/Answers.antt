@@ -18,10 +18,10 @@ loop-i-preserved c =
     let l = c.loop-i in
     let put = placed 262 10 (bits_of c.args.field.now) c.args.out.now c.requires.1 in
     let i = 4 * l.i in
-    let e1 = put l.out i (i + 1) (8 * (5 * l.i) + 0) _ l.invariant.2 (omega arith) c.word.ensures (omega arith) refl in
+    let e1 = put l.out i (i + 1) (8 * (5 * l.i) + 0) _ l.invariant.1 (omega arith) c.word.ensures (omega arith) refl in
     let e2 = put _ (i + 1) (i + 2) (8 * (5 * l.i + 1) + 2) _ e1 (omega arith) c.word-in-loop-i.ensures (omega arith) (omega arith) in
     let e3 = put _ (i + 2) (i + 3) (8 * (5 * l.i + 2) + 4) _ e2 (omega arith) c.word-in-loop-i-2.ensures (omega arith) (omega arith) in
-    (omega arith, simp length-set l.invariant.1, put _ (i + 3) (4 * (l.i + 1)) (8 * (5 * l.i + 3) + 6) _ e3 (omega arith) c.word-in-loop-i-3.ensures (omega arith) (omega arith))
+    (simp length-set l.invariant.0, put _ (i + 3) (4 * (l.i + 1)) (8 * (5 * l.i + 3) + 6) _ e3 (omega arith) c.word-in-loop-i-3.ensures (omega arith) (omega arith))
 
 pub returns : goal.returns
 unfolding part
@@ -31,7 +31,7 @@ returns c =
     let old = c.args.out.now in
     let put = placed 262 10 b old c.requires.1 in
     let i : 4 * l.i ≡ 260 = omega arith in
-    let e1 = put l.out 260 261 2600 _ (l.invariant.2 ∙ ap (filled (numbers 262 10 b) old) i) (omega arith) c.word-2.ensures refl refl in
+    let e1 = put l.out 260 261 2600 _ (l.invariant.1 ∙ ap (filled (numbers 262 10 b) old) i) (omega arith) c.word-2.ensures refl refl in
     let e2 = put _ 261 262 2610 _ e1 (omega arith) c.word-3.ensures refl refl in
     ap (λ (x : List ℕ). set (set (set x 0 0x000) 1 0x3FF) 2 0x3FF) (placed-all 262 10 b old c.requires.1 _ e2)
     ∙ three-over (numbers 262 10 b) 0x000 0x3FF 0x3FF (omega (arith, numbers-length 262 10 b)) ∙ held-words c.args.field.now
