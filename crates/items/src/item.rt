@@ -12,8 +12,8 @@ pub(crate) fn rule(number: u8, bytes: &[u8]) -> bool
 {
     match number {
         1 => rules::station(bytes),
-        2 => rules::time(rules::array_of(bytes)),
-        3 | 4 => rules::picture(rules::array_of(bytes)),
+        2 => rules::time(*bytes.as_array().unwrap()),
+        3 | 4 => rules::picture(*bytes.as_array().unwrap()),
         6 | 7 => rules::sound_byte(bytes[0]),
         _ => true,
     }

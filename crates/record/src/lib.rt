@@ -13,7 +13,6 @@ ghost use Rattle.record.specs.Stored.{item_lent, item_start, put_refusal, put_le
 ghost use Rattle.record.specs.Written.{written_refusal, written};
 
 use refusal::{Reason, Refusal, at, plain, require};
-use rules::array_of;
 
 // What the bytes of a record are refused for: another number of them than 248, the first byte of the reserved area that is not zero, or the
 // first item whose rule they break.
@@ -43,9 +42,9 @@ fn first_broken(bytes: &[u8]) -> Result<(), Refusal>
     requires { length bytes.now ≡ 248 }
     ensures { result ≡ checked_of (broken items bytes.now) }
 {
-    let time = array_of(&bytes[8..17]);
-    let current = array_of(&bytes[17..21]);
-    let next = array_of(&bytes[21..25]);
+    let time = *bytes[8..17].as_array().unwrap();
+    let current = *bytes[17..21].as_array().unwrap();
+    let next = *bytes[21..25].as_array().unwrap();
     require(rules::station(&bytes[0..8]), at(Reason::Station, 1))?;
     require(rules::time(time), at(Reason::Time, 9))?;
     require(rules::picture(current), at(Reason::Picture, 18))?;
@@ -61,8 +60,8 @@ pub fn write_record(bytes: &[u8], out: &mut [u8]) -> Result<(), Refusal>
 {
     require(bytes.len() == 248, plain(Reason::Size))?;
     require(out.len() == 248, plain(Reason::Room))?;
-    let current = rules::picture_clean(array_of(&bytes[17..21]));
-    let next = rules::picture_clean(array_of(&bytes[21..25]));
+    let current = rules::picture_clean(*bytes[17..21].as_array().unwrap());
+    let next = rules::picture_clean(*bytes[21..25].as_array().unwrap());
     out.copy_from_slice(bytes);
     out[17..21].copy_from_slice(&current);
     out[21..25].copy_from_slice(&next);
@@ -116,7 +115,7 @@ pub fn store_item(number: u8, bytes: &[u8], out: &mut [u8]) -> Result<(), Refusa
 {
     items::item_refusal(number, bytes)?;
     if items::is_picture(number) {
-        let clean = rules::picture_clean(array_of(bytes));
+        let clean = rules::picture_clean(*bytes.as_array().unwrap());
         return put_item(number, &clean, out);
     }
     put_item(number, bytes, out)

@@ -3,18 +3,8 @@
 // other number of bytes to speak of.
 #![tactic(auto)]
 
-ghost use Rattle.std.specs.Prelude.{◌≡◌, cond, ◌*◌, ◌/◌, ◌%◌, ◌≤◌, ◌<◌, length};
+ghost use Rattle.std.specs.Prelude.{◌≡◌, cond, ◌*◌, ◌/◌, ◌%◌, ◌≤◌, ◌<◌};
 ghost use Rattle.rules.specs.Rules.{station_byte, station_rule, time_byte, time_rule, picture_rule, picture_clean, sound_byte};
-
-// The bytes, by value, where their number is fixed.
-pub fn array_of<const N: usize>(bytes: &[u8]) -> [u8; N]
-    requires { length bytes.now ≡ N }
-    ensures { result ≡ bytes.now }
-{
-    let mut array = [0; N];
-    array.copy_from_slice(bytes);
-    array
-}
 
 // ---- item 1, station code
 

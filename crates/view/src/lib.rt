@@ -8,7 +8,6 @@ ghost use Rattle.view.specs.View.{count_of, time_word_of, milliseconds_of, time_
 ghost use Rattle.view.specs.Read.{record_read_of};
 
 use refusal::Refusal;
-use rules::array_of;
 
 // Each word is the number that its byte stands for, or None where it is not sent; the milliseconds are the two last bytes together, 0 to 999.
 // Weekday 0 is Sunday.
@@ -170,7 +169,7 @@ fn view_of(bytes: &[u8; 248]) -> RecordView
     ensures { result ≡ view_of bytes.now }
 {
     RecordView {
-        station: array_of(&bytes[0..8]),
+        station: *bytes[0..8].as_array().unwrap(),
         time: time_of(bytes),
         picture: picture_of([bytes[17], bytes[18], bytes[19], bytes[20]]),
         next_picture: picture_of([bytes[21], bytes[22], bytes[23], bytes[24]]),
@@ -191,5 +190,5 @@ pub fn read_record(bytes: &[u8]) -> Result<RecordView, Refusal>
     ensures { result ≡ record_read_of bytes.now }
 {
     record::record_refusal(bytes)?;
-    Ok(view_of(&array_of(bytes)))
+    Ok(view_of(bytes.as_array().unwrap()))
 }

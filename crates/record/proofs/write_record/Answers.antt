@@ -2,6 +2,7 @@
 -- Assumes nothing.
 use mathlib.Core.Path.{◌≡◌, sym, ap, ◌∙◌}
 use Prim.Native.Nat.{ℕ}
+use Rattle.std.proofs.Common.{rules}
 use native.Mathlib.Omega.{arith}
 use lib.ListN.{length, replicate}
 use Rattle.refusal.specs.Checked.{checked_of}
@@ -19,7 +20,7 @@ returns c =
       sym (ap checked_of (record-fits a.bytes.now a.out.now h o)),
       record-written a.bytes.now a.out.now h o _ _ _ _
           c.copy_from_slice.ensures.after
-          (c.copy_from_slice-2.ensures.after ∙ c.picture_clean-current.ensures ∙ ap picture_clean c.array_of.ensures)
-          (c.copy_from_slice-3.ensures.after ∙ c.picture_clean-next.ensures ∙ ap picture_clean c.array_of-2.ensures)
+          (c.copy_from_slice-2.ensures.after ∙ c.picture_clean-current.ensures ∙ ap picture_clean (search rules))
+          (c.copy_from_slice-3.ensures.after ∙ c.picture_clean-next.ensures ∙ ap picture_clean (search rules))
           zeros,
     )
