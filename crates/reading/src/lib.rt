@@ -22,7 +22,7 @@ pub fn read_packet(words: &[u16]) -> Result<Packet, Refusal>
 {
     let mut bytes = [0u8; 254];
     reader::check(words, &mut bytes)?;
-    Ok(reader::packet(words, &bytes))
+    Ok(reader::packet(words.try_into().unwrap(), &bytes))
 }
 
 // Reads a packet, and leaves its record of 248 bytes in `out`. A refusal leaves `out` as it was.
@@ -32,5 +32,5 @@ pub fn read_packet_into(words: &[u16], out: &mut [u8]) -> Result<Packet, Refusal
     let mut bytes = [0u8; 254];
     reader::check(words, &mut bytes)?;
     record::write_record(&bytes[0..248], out)?;
-    Ok(reader::packet(words, &bytes))
+    Ok(reader::packet(words.try_into().unwrap(), &bytes))
 }

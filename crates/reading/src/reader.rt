@@ -60,8 +60,7 @@ fn read_bytes(words: &[u16], correction: bool, out: &mut [u8]) -> Result<(), Ref
 }
 
 // The checksum of the words from DID to the last user word, with the sound words of the bytes in the protected places.
-fn sum_rewritten(words: &[u16], bytes: &[u8]) -> u16
-    requires { (length words.now ≡ 262) × (length bytes.now ≡ 254) }
+fn sum_rewritten(words: &[u16; 262], bytes: &[u8; 254]) -> u16
     ensures { result ≡ checksum_of (summed_by true words.now bytes.now) }
 {
     let mut summed = [0u16; 258];
@@ -75,8 +74,7 @@ fn sum_rewritten(words: &[u16], bytes: &[u8]) -> u16
 }
 
 // The checksum of the words from DID to the last user word, as they are read.
-fn sum_read(words: &[u16], correction: bool, bytes: &[u8]) -> u16
-    requires { (length words.now ≡ 262) × (length bytes.now ≡ 254) }
+fn sum_read(words: &[u16; 262], correction: bool, bytes: &[u8; 254]) -> u16
     ensures { result ≡ checksum_of (summed_by correction words.now bytes.now) }
 {
     if correction {
@@ -87,8 +85,7 @@ fn sum_read(words: &[u16], correction: bool, bytes: &[u8]) -> u16
 
 // What the words are refused for once their bytes are read: the checksum, then the record.
 #[tactic(auto, unfolding(crate::specs::Answer::tail_refusal))]
-fn check_tail(words: &[u16], correction: bool, bytes: &[u8]) -> Result<(), Refusal>
-    requires { (length words.now ≡ 262) × (length bytes.now ≡ 254) }
+fn check_tail(words: &[u16; 262], correction: bool, bytes: &[u8; 254]) -> Result<(), Refusal>
     ensures { result ≡ checked_of (tail_refusal words.now correction bytes.now) }
 {
     let is_sum = sum_read(words, correction, bytes) == words[261];
@@ -97,8 +94,7 @@ fn check_tail(words: &[u16], correction: bool, bytes: &[u8]) -> Result<(), Refus
 }
 
 // Fills `bytes` with those of the protected words as they are read, and says what the words are refused for behind the header.
-fn check_body(words: &[u16], bytes: &mut [u8]) -> Result<(), Refusal>
-    requires { (length words.now ≡ 262) × (length bytes.old ≡ 254) }
+fn check_body(words: &[u16; 262], bytes: &mut [u8; 254]) -> Result<(), Refusal>
     ensures { (result ≡ checked_of (body_refusal words.now)) × (bytes.new ≡ guard_bytes (correction_of words.now) (protected_of words.now)) }
 {
     let on = words[6] / 128 % 2 == 1;
@@ -108,17 +104,15 @@ fn check_body(words: &[u16], bytes: &mut [u8]) -> Result<(), Refusal>
 
 // What the words are refused for; `bytes` are those of the protected words as they are read, unless the words up to the header are
 // refused.
-pub(crate) fn check(words: &[u16], bytes: &mut [u8]) -> Result<(), Refusal>
-    requires { length bytes.old ≡ 254 }
+pub(crate) fn check(words: &[u16], bytes: &mut [u8; 254]) -> Result<(), Refusal>
     ensures { (result ≡ checked_of (read_refusal words.now)) × (bytes.new ≡ left_by (head_refusal words.now) (guard_bytes (correction_of words.now) (protected_of words.now)) bytes.old) }
 {
     check_head(words)?;
-    check_body(words, bytes)
+    check_body(words.try_into().unwrap(), bytes)
 }
 
 // What is told of accepted words whose bytes are read; words are counted as fixed with correction on alone.
-pub(crate) fn packet(words: &[u16], bytes: &[u8]) -> Packet
-    requires { (length words.now ≡ 262) × (length bytes.now ≡ 254) }
+pub(crate) fn packet(words: &[u16; 262], bytes: &[u8; 254]) -> Packet
     ensures { result ≡ packet_by words.now bytes.now }
 {
     let correction = words[6] / 128 % 2 == 1;

@@ -6,6 +6,7 @@ use Prim.Native.Nat.{ℕ}
 use native.Mathlib.Omega.{arith}
 use lib.ListN.{length, take}
 use lib.Seq.{length-take-le}
+use Rattle.std.proofs.lemmas.Result.{MatchResult-at_ok}
 use Rattle.refusal.proofs.Laws.Chain.{handed-on}
 use Rattle.record.specs.Record.{record_of}
 use Rattle.reading.specs.Reading.{correction_of, protected_of, read_record}
@@ -41,11 +42,8 @@ returns-in_err-write_record c =
       c.write_record.ensures.1 ∙ left-written ws _ check.0 _ c.args.out.now (long ws _ room bytes) told (is_read ws _ room bytes),
     )
 
-pub packet-requires : goal.packet-requires
-packet-requires c =
-    let check = c.check.ensures in
-    let told = c.in_ok-check.was in
-    (answer-long _ _ check.0 told, answer-room _ _ check.0 _ told (answer-bytes _ _ check.0 _ _ told check.1))
+pub unwrap-requires : goal.unwrap-requires
+unwrap-requires c = c.try_into.ensures.0 (answer-long _ _ c.check.ensures.0 c.in_ok-check.was)
 
 pub returns : goal.returns
 returns c =
@@ -53,7 +51,8 @@ returns c =
     let check = c.check.ensures in
     let told = c.in_ok-check.was in
     let bytes = answer-bytes ws _ check.0 _ _ told check.1 in
+    let whole = MatchResult-at_ok _ _ _ c.unwrap.ensures c.try_into.ensures.1 in
     let room = answer-room ws _ check.0 _ told bytes in (
-      into-accepted ws _ check.0 _ c.args.out.now (long ws _ room bytes) told _ c.write_record.ensures.0 _ _ c.in_ok-write_record.was bytes c.packet.ensures,
+      into-accepted ws _ check.0 _ c.args.out.now (long ws _ room bytes) told _ c.write_record.ensures.0 _ _ c.in_ok-write_record.was bytes (rw whole.same at c.packet.ensures),
       c.write_record.ensures.1 ∙ left-written ws _ check.0 _ c.args.out.now (long ws _ room bytes) told (is_read ws _ room bytes),
     )
