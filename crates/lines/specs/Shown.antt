@@ -1,8 +1,9 @@
 -- The lines that are printed of a field: `refused N P` alone, or the field's head, the packet, and each item's record bytes.
 -- Assumes nothing.
-use Rattle.std.specs.Prelude.{Bool, cond, List, [], ◌∷◌, ◌++◌, map, ℕ, ◌+◌, eqb}
+use Rattle.std.specs.Prelude.{Bool, cond, List, [], ◌∷◌, ◌++◌, map, ℕ, ◌+◌, eqb, Result}
 use Rattle.std.proofs.Math.Option.{Option, none, some}
 use Rattle.refusal.specs.Chain.{next}
+use Rattle.refusal.specs.Checked.{answer_of}
 use Rattle.refusal.specs.Number.{number_of}
 use Rattle.refusal.specs.declared.Refusal.{Refusal}
 use Rattle.items.specs.Items.{items}
@@ -68,18 +69,21 @@ numbers = map (λ i. i.number) items
 
 -- ---- what is printed of a field
 
--- the refusal alone, or the head, the packet and each item of the table
+-- where it is not refused: the head, the packet and each item of the table
+abbrev pub accepted_lines : Head → List ℕ → List ℕ
+accepted_lines h words = field_line h.yc h.line h.offset ++ packet_line (packet_of words) ++ item_lines numbers (read_record words)
+
+-- the refusal alone, or those
 abbrev pub lines_by : Option Refusal → Head → List ℕ → List ℕ
-lines_by none h words = field_line h.yc h.line h.offset ++ packet_line (packet_of words) ++ item_lines numbers (read_record words)
+lines_by none h words = accepted_lines h words
 lines_by (some why) h words = refused_line why
 
--- of the words of a packet
-unfoldable pub packet_lines : Head → List ℕ → List ℕ
-packet_lines h words = lines_by (read_refusal words) h words
+-- what a field is refused for: 25 and 26, and then what the packet is refused for
+abbrev pub field_refusal : List ℕ → Option Refusal
+field_refusal field = next (unpack_refusal field 262) (read_refusal (words_of field))
 
--- of a field: 25 and 26, and then what the packet is refused for
 unfoldable pub field_lines : List ℕ → List ℕ
-field_lines field = lines_by (next (unpack_refusal field 262) (read_refusal (words_of field))) (head_of field) (words_of field)
+field_lines field = lines_by (field_refusal field) (head_of field) (words_of field)
 
 -- how many lines a text has
 unfoldable pub lines_in : List ℕ → ℕ
@@ -90,6 +94,10 @@ lines_in (c ∷ text) = cond (eqb c newline) 1 0 + lines_in text
 unfoldable pub private_line : List ℕ → List ℕ
 private_line rec = (0x31 ∷ 0x33 ∷ []) ++ hex_bytes (private_part rec) ++ (newline ∷ [])
 
--- on a page
+-- the page of a field that is not refused
+unfoldable pub accepted_of : List ℕ → Result Page Refusal
+accepted_of field = answer_of (field_refusal field) (written blank (accepted_lines (head_of field) (words_of field)))
+
+-- the page of a field
 unfoldable pub shown : List ℕ → Page
 shown field = written blank (field_lines field)

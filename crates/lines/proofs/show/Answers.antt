@@ -1,16 +1,10 @@
--- `lines::show` meets its contract: what unpacking answered and left says what is printed.
+-- `lines::show` meets its contract: the page that was made, or that of the refusal.
 -- Assumes nothing.
-use mathlib.Core.Path.{refl}
-use lib.ListN.{replicate}
-use Rattle.lines.proofs.Laws.Shown.{field-shown, field-refused, shown-sized}
+use Rattle.lines.proofs.Laws.Shown.{accepted-shown, refused-shown, shown-sized}
 use Rattle.lines.proofs.show.Goals as goal
 
-pub returns-in-Done : goal.returns-in-Done
-returns-in-Done c =
-    let read = c.unpack-unpacked.ensures in
-    shown-sized _ _ (field-shown _ (replicate 262 0) _ refl read.0 _ _ _ c.in-Done.is read.1 c.show_packet.ensures)
+pub returns-in-Ok : goal.returns-in-Ok
+returns-in-Ok c = shown-sized _ _ (accepted-shown _ _ c.in-Ok.ensures)
 
-pub returns-in-Refused : goal.returns-in-Refused
-returns-in-Refused c =
-    let read = c.unpack-unpacked.ensures in
-    shown-sized _ _ (field-refused _ (replicate 262 0) _ refl read.0 _ _ c.in-Refused.is c.refused.ensures)
+pub returns-in-Err : goal.returns-in-Err
+returns-in-Err c = shown-sized _ _ (refused-shown _ _ _ c.in-Err.ensures c.refused.ensures)

@@ -1,7 +1,9 @@
 -- `lines::write_item` meets its contract: the line part by part.
 -- Assumes nothing.
-use Rattle.lines.proofs.Laws.Shown.{item-parts}
+use Rattle.lines.specs.Shown.{item_line}
+use Rattle.lines.proofs.Laws.Page.{written-append}
 use Rattle.lines.proofs.write_item.Goals as goal
 
 pub returns : goal.returns
-returns c = item-parts _ _ _ _ _ _ _ c.write_number-p0.ensures c.item_part.ensures.0 c.write_bytes-p1.ensures c.write.ensures
+unfolding item_line
+returns c = rw (c.write.ensures, c.write_bytes.ensures, c.item_part.ensures.0, c.write_number.ensures, c.from.ensures) (simp written-append)

@@ -14,9 +14,9 @@ pub loop-number-preserved : goal.loop-number-preserved
 loop-number-preserved c =
     let l = c.loop-number in
     let rec = c.args.rec.now in
-    (omega arith, omega arith, l.invariant.2 ∙ items-step l.out rec l.number l.invariant.0 (omega arith) ∙ ap (λ (p : Page). written p (item_lines (drop (l.number + 1 - 1) numbers) rec)) (sym c.write_item-next.ensures))
+    l.invariant ∙ items-step l.page rec l.number l.auto.number (omega arith) ∙ ap (λ (p : Page). written p (item_lines (drop (l.number + 1 - 1) numbers) rec)) (sym c.write_item.ensures)
 
 pub returns : goal.returns
 returns c =
     let l = c.loop-number in
-    sym (l.invariant.2 ∙ items-end l.out c.args.rec.now l.number (omega arith))
+    sym (l.invariant ∙ items-end l.page c.args.rec.now l.number (omega arith))

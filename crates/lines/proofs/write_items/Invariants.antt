@@ -1,15 +1,11 @@
--- `lines::write_items` meets its contract. The loop's invariant: what is to be written is the rest of the items, on what the page is by now. The
--- measure is how many are left.
+-- `lines::write_items` meets its contract. The loop's invariant: what is to be written is the rest of the items, on what the page is by now.
 -- Assumes nothing.
 use mathlib.Core.Path.{◌≡◌}
-use Prim.Native.Nat.{◌≤◌, ◌-◌}
+use Prim.Native.Nat.{◌-◌}
 use lib.ListN.{drop}
 use Rattle.lines.specs.Text.{written}
 use Rattle.lines.specs.Shown.{item_lines, numbers}
 use Rattle.lines.proofs.write_items.Given as goal
 
 abbrev pub invariant-loop-number : goal.invariant-loop-number
-invariant-loop-number l = (1 ≤ l.number) × (l.number ≤ 14) × (written l.initial.out (item_lines numbers l.rec) ≡ written l.out (item_lines (drop (l.number - 1) numbers) l.rec))
-
-abbrev pub decreases-loop-number : goal.decreases-loop-number
-decreases-loop-number l = 14 - l.number
+invariant-loop-number l = written l.fn.page (item_lines numbers l.rec) ≡ written l.page (item_lines (drop (l.number - 1) numbers) l.rec)
