@@ -15,7 +15,7 @@ returns c =
     let a = c.args in
     let h : length a.bytes.now ≡ 248 = grind arith in
     let o : length a.out.now ≡ 248 = grind arith in
-    let long : length c.fill.new.self ≡ 64 = grind arith in
+    let long : length c.fill.new.self ≡ 64 = omega arith in
     let zeros : c.fill.new.self ≡ replicate 64 0 = c.fill.ensures.after (λ y e. e) ∙ ap (λ (n : ℕ). replicate n 0) (sym c.fill.ensures.len ∙ long) in (
       sym (ap checked_of (record-fits a.bytes.now a.out.now h o)),
       record-written a.bytes.now a.out.now h o _ _ _ _
