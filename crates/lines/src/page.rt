@@ -5,7 +5,7 @@ ghost use Rattle.lines.specs.Text.{digit, leading, decimal, hex_byte, hex_bytes,
 // The lines of a field take 679 places at the most.
 const PLACES: usize = 704;
 
-// The places, of which the first `length` are written; the others are zero.
+// The places, of which the first `length` are written; the others are zero. Fixed memory, and no String: nothing in this project takes the heap.
 #[derive(Clone, Copy, Debug, PartialEq, Eq)]
 pub struct Page {
     pub bytes: [u8; PLACES],
