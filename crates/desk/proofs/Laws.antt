@@ -1,5 +1,4 @@
--- Laws of the desk: how its opening record is written, what its calls answer, and the history that it stands for.
-pub mod Opening
+-- Laws of the desk: that the step of an edit is kept, the history that a desk stands for, and values.
 pub mod Calls
 pub mod Model
 pub mod Values

@@ -11,7 +11,7 @@ use refusal::{Reason, Refusal, require};
 // One step of the history: the item that was edited and the bytes it had before, with zeros behind them. It crosses to C as it lies in memory, so that
 // its bytes have a fixed room.
 #[repr(C)]
-#[derive(Clone, Copy)]
+#[derive(Clone, Copy, Debug, PartialEq, Eq)]
 pub struct Step {
     pub item: u8,
     pub old: [u8; Step::ROOM],

@@ -242,8 +242,8 @@ unfolding undone
 undo-index d = by (undo_refusal d) _ refl
   where
     by : (o : Option Refusal) (new : Desk) → new.ci ≡ d.ci → (left_by o new d).ci ≡ d.ci
-    by none new e = e
-    by (some why) new e = refl
+    by none next e = e
+    by (some why) next e = refl
 
 -- ---- the number of sends: an edit and an undo leave it, a send into room for its words is one more, into any other room none
 
