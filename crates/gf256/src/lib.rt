@@ -104,20 +104,18 @@ impl Tables {
         quotient_in(&self.wheel, &self.logs, a, b)
     }
 
-    // The power of 2.
+    // The power of 2; the powers come around after 255.
     pub fn power(&self, k: usize) -> u8
-        requires { k < 510 }
         ensures { result ≡ pow 2 k }
     {
-        self.wheel[k]
+        self.wheel[k % 255]
     }
 
     // The power of 2 once more, and 0 from 510 on: with 510 for the logarithm of 0, what stands at the sum of two is the product.
     pub fn on_wheel(&self, k: usize) -> u8
-        requires { k < 1021 }
         ensures { result ≡ on_wheel k }
     {
-        self.wheel[k]
+        if k < 1021 { self.wheel[k] } else { 0 }
     }
 
     // The logarithm, which is the power of 2 that a byte is. 0 has none.

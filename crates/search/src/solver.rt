@@ -108,7 +108,7 @@ fn top_root(tables: &Tables, l: Locator) -> Option<Place>
     let la = tables.log(l.a).unwrap_or(510);
     let lc = tables.log(l.c).unwrap_or(510);
     for k in (0..254).rev() {
-        let square = tables.power(k + k);
+        let square = tables.on_wheel(k + k);
         let linear = tables.on_wheel(la + k);
         let inverse = tables.on_wheel(lc + 255 - k);
         if sum3(square, linear, inverse) == l.b {

@@ -139,6 +139,13 @@ pow-255 = sym (raise-pow 255) ∙ once-around
 pub pow-around : (k : ℕ) → pow 2 (k + 255) ≡ pow 2 k
 pow-around k = pow-add 2 k 255 ∙ ap (◌⊗◌ (pow 2 k)) pow-255 ∙ ⊗-one-r _ (pow-lt 2 k)
 
+-- so that an exponent may be taken modulo 255
+pub pow-mod : (k : ℕ) → pow 2 (k % 255) ≡ pow 2 k
+pow-mod k =
+    let e : 255 * (k / 255) + k % 255 ≡ k = omega arith in
+    let whole : pow 2 (255 * (k / 255)) ≡ 1 = sym (pow-mul 2 255 (k / 255)) ∙ ap (λ (x : ℕ). pow x (k / 255)) pow-255 ∙ one-pow (k / 255) in
+    sym (⊗-one-l (pow 2 (k % 255)) (pow-lt 2 (k % 255))) ∙ ap (λ (x : ℕ). x ⊗ pow 2 (k % 255)) (sym whole) ∙ sym (pow-add 2 (255 * (k / 255)) (k % 255)) ∙ ap (pow 2) e
+
 -- each byte but 0 is a power of 2
 pub is-power : (a : ℕ) → 0 < a → a < 256 → (k : ℕ) × (k < 255) × (pow 2 k ≡ a)
 is-power a p h = let d = is-doubling a p h in (d.0, d.1, sym (raise-pow d.0) ∙ d.2)
