@@ -1,27 +1,19 @@
 -- The answers of the crates as plain structs for C: for every case of an answer its number, its place and its values.
 -- Number 0 is done. Beside a refusal, what the call would have given is 0; beside 7 stand the wrong bits of the word.
 -- Assumes nothing.
-use Rattle.std.specs.Prelude.{true, false, ℕ}
+use Rattle.std.specs.Prelude.{Bool, false, ℕ, Result, Ok, Err, Some, None}
 use Rattle.std.proofs.Math.Option.{Option, none, some}
 use Rattle.refusal.specs.Number.{number_of, bits_of, bits_in}
 use Rattle.refusal.specs.declared.Refusal.{Refusal}
 use Rattle.refusal.specs.Checked.{refusal_in}
-use Rattle.soundness.specs.declared.Soundness.{Soundness}
-use Rattle.soundness.specs.declared.Soundness.TheVariants.{Sound, Unsound, Refused as RefusedWord}
-use Rattle.rs.specs.declared.Verdict.{Verdict}
-use Rattle.rs.specs.declared.Verdict.TheVariants.{Yes, No, Refused as RefusedBlock}
-use Rattle.reading.specs.declared.Reading.{Reading}
-use Rattle.reading.specs.declared.Reading.TheVariants.{Accepted, Refused}
-use Rattle.repair.specs.declared.Repaired.{Repaired}
-use Rattle.repair.specs.declared.Repaired.TheVariants.{Fixed, Refused as RefusedRepair}
-use Rattle.b40.specs.declared.Unpacked.{Unpacked}
-use Rattle.b40.specs.declared.Unpacked.TheVariants.{Done as HeadOf, Refused as RefusedField}
+use Rattle.soundness.specs.Check.{Soundness}
+use Rattle.reading.specs.declared.Packet.{Packet}
+use Rattle.b40.specs.declared.Head.{Head}
 use Rattle.desk.specs.declared.Turn.{Turn}
 use Rattle.sequence.specs.declared.Kind.{Kind}
 use Rattle.sequence.specs.declared.Kind.TheVariants.{First, Next, Repeat, Conflict}
+use Rattle.follower.specs.declared.Arrival.{Arrival}
 use Rattle.follower.specs.declared.Follower.{Follower}
-use Rattle.follower.specs.declared.Heard.{Heard}
-use Rattle.follower.specs.declared.Heard.TheVariants.{Accepted as Arrived, Refused as RefusedPacket}
 use Rattle.follower.specs.declared.Followed.{Followed}
 use Rattle.answers.specs.declared.AyAnswer.{AyAnswer}
 use Rattle.answers.specs.declared.AyWord.{AyWord}
@@ -55,37 +47,36 @@ refused_with why = record { number = number_of why.reason; place = why.place; bi
 
 -- what the word check answered: which bits are wrong
 unfoldable pub word_from : Soundness → AyWord
-word_from Sound = record { number = 0; place = 0; bits = 0 }
-word_from (Unsound wrong) = record { number = 0; place = 0; bits = bits_of wrong }
-word_from (RefusedWord why) = refused_with why
+word_from (Ok None) = record { number = 0; place = 0; bits = 0 }
+word_from (Ok (Some wrong)) = record { number = 0; place = 0; bits = bits_of wrong }
+word_from (Err why) = refused_with why
 
 -- ---- codeword
 
 -- what the check answered: are the bytes a codeword?
-unfoldable pub verdict_from : Verdict → AyVerdict
-verdict_from Yes = record { number = 0; place = 0; codeword = true }
-verdict_from No = record { number = 0; place = 0; codeword = false }
-verdict_from (RefusedBlock why) = record { number = number_of why.reason; place = why.place; codeword = false }
+unfoldable pub verdict_from : Result Bool Refusal → AyVerdict
+verdict_from (Ok codeword) = record { number = 0; place = 0; codeword = codeword }
+verdict_from (Err why) = record { number = number_of why.reason; place = why.place; codeword = false }
 
 -- ---- packet
 
 -- what reading answered: the packet's correction bit, index and fixed words
-unfoldable pub packet_from : Reading → AyPacket
-packet_from (Accepted p) = record { number = 0; place = 0; bits = 0; correction = p.correction; ci = p.ci; fixed = p.fixed }
-packet_from (Refused why) =
+unfoldable pub packet_from : Result Packet Refusal → AyPacket
+packet_from (Ok p) = record { number = 0; place = 0; bits = 0; correction = p.correction; ci = p.ci; fixed = p.fixed }
+packet_from (Err why) =
     record { number = number_of why.reason; place = why.place; bits = bits_in why.reason; correction = false; ci = 0; fixed = 0 }
 
 -- what repair answered: the fixed words
-unfoldable pub repaired_from : Repaired → AyRepaired
-repaired_from (Fixed n) = record { number = 0; place = 0; fixed = n }
-repaired_from (RefusedRepair why) = record { number = number_of why.reason; place = why.place; fixed = 0 }
+unfoldable pub repaired_from : Result ℕ Refusal → AyRepaired
+repaired_from (Ok n) = record { number = 0; place = 0; fixed = n }
+repaired_from (Err why) = record { number = number_of why.reason; place = why.place; fixed = 0 }
 
 -- ---- field
 
 -- what unpacking answered: Y/C, line and offset
-unfoldable pub field_from : Unpacked → AyField
-field_from (HeadOf h) = record { number = 0; place = 0; yc = h.yc; line = h.line; offset = h.offset }
-field_from (RefusedField why) = record { number = number_of why.reason; place = why.place; yc = false; line = 0; offset = 0 }
+unfoldable pub field_from : Result Head Refusal → AyField
+field_from (Ok h) = record { number = 0; place = 0; yc = h.yc; line = h.line; offset = h.offset }
+field_from (Err why) = record { number = number_of why.reason; place = why.place; yc = false; line = 0; offset = 0 }
 
 -- ---- desk
 
@@ -104,8 +95,8 @@ kind_number Repeat = 3
 kind_number Conflict = 4
 
 -- what was heard: the kind of the packet, its index, fixed words, missed packets and onsets
-unfoldable pub heard_from : Follower → Heard → AyFollowed
-heard_from f (Arrived a) =
+unfoldable pub heard_from : Follower → Result Arrival Refusal → AyFollowed
+heard_from f (Ok a) =
     record {
       follower = f;
       number = 0;
@@ -117,7 +108,7 @@ heard_from f (Arrived a) =
       missed = a.missed;
       onsets = a.onsets;
     }
-heard_from f (RefusedPacket why) =
+heard_from f (Err why) =
     record {
       follower = f;
       number = number_of why.reason;

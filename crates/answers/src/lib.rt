@@ -3,18 +3,20 @@
 
 ghost use Rattle.std.specs.Prelude.{◌≡◌};
 ghost use Rattle.refusal.specs.Checked.{refusal_in};
-ghost use Rattle.writing.specs.Written.{refusal_in as refusal_in_written};
 ghost use Rattle.answers.specs.Answers.{refused_for, answer_by, refused_with, word_from, verdict_from, packet_from, repaired_from, field_from, turn_from, kind_number, followed_from};
 
-use desk::Desk;
-use follower::Follower;
+use b40::Head;
+use desk::{Desk, Turn};
+use follower::{Followed, Follower};
+use reading::Packet;
+use refusal::{Refusal, Wrong};
 use sequence::Kind;
 
 const DONE: u8 = 0;
 
 // Done, 0 and 0; or the number and the place of the refusal.
 #[repr(C)]
-#[derive(Clone, Copy)]
+#[derive(Clone, Copy, Debug, PartialEq, Eq)]
 pub struct AyAnswer {
     pub number: u8,
     pub place: u8,
@@ -22,7 +24,7 @@ pub struct AyAnswer {
 
 // The answer, and which bits of a word are wrong: 0 none, 1 b8, 2 b9, 3 both.
 #[repr(C)]
-#[derive(Clone, Copy)]
+#[derive(Clone, Copy, Debug, PartialEq, Eq)]
 pub struct AyWord {
     pub number: u8,
     pub place: u8,
@@ -31,7 +33,7 @@ pub struct AyWord {
 
 // The answer, and whether the bytes are a codeword, or false.
 #[repr(C)]
-#[derive(Clone, Copy)]
+#[derive(Clone, Copy, Debug, PartialEq, Eq)]
 pub struct AyVerdict {
     pub number: u8,
     pub place: u8,
@@ -40,7 +42,7 @@ pub struct AyVerdict {
 
 // The answer, with 7 the wrong bits of the word at the place, and the packet that was accepted, or zeros.
 #[repr(C)]
-#[derive(Clone, Copy)]
+#[derive(Clone, Copy, Debug, PartialEq, Eq)]
 pub struct AyPacket {
     pub number: u8,
     pub place: u8,
@@ -52,7 +54,7 @@ pub struct AyPacket {
 
 // The answer, and how many words were fixed, or 0.
 #[repr(C)]
-#[derive(Clone, Copy)]
+#[derive(Clone, Copy, Debug, PartialEq, Eq)]
 pub struct AyRepaired {
     pub number: u8,
     pub place: u8,
@@ -61,7 +63,7 @@ pub struct AyRepaired {
 
 // The answer, and what stands in a field before its words, or zeros.
 #[repr(C)]
-#[derive(Clone, Copy)]
+#[derive(Clone, Copy, Debug, PartialEq, Eq)]
 pub struct AyField {
     pub number: u8,
     pub place: u8,
@@ -81,7 +83,7 @@ pub struct AyTurn {
 
 // The follower handed back, the answer, with 7 the wrong bits of the word at the place, and what the packet brought, or zeros.
 #[repr(C)]
-#[derive(Clone, Copy)]
+#[derive(Clone, Copy, Debug, PartialEq, Eq)]
 pub struct AyFollowed {
     pub follower: Follower,
     pub number: u8,
@@ -97,191 +99,183 @@ pub struct AyFollowed {
 // ---- an answer as its struct
 
 // The number and the place of a refusal, and the wrong bits that it carries.
-fn refused_with(why: refusal::Refusal) -> AyWord
-    ensures { result ≡ refused_with why }
-{
-    let reason = why.reason;
-    AyWord {
-        number: refusal::number(reason),
-        place: why.place,
-        bits: refusal::bits_in(reason),
+impl From<Refusal> for AyWord {
+    ghost from_gives = { λ why answer. answer ≡ refused_with why };
+
+    fn from(why: Refusal) -> Self {
+        AyWord {
+            number: u8::from(why.reason),
+            place: why.place,
+            bits: refusal::bits_in(why.reason),
+        }
     }
 }
 
 // The number and the place of a refusal.
-fn refused(why: refusal::Refusal) -> AyAnswer
-    ensures { result ≡ refused_for why }
-{
-    let answer = refused_with(why);
-    AyAnswer {
-        number: answer.number,
-        place: answer.place,
+impl From<Refusal> for AyAnswer {
+    ghost from_gives = { λ why answer. answer ≡ refused_for why };
+
+    fn from(why: Refusal) -> Self {
+        let AyWord { number, place, .. } = AyWord::from(why);
+        AyAnswer { number, place }
     }
 }
 
 // Of a check.
-#[tactic(auto, unfolding(crate::specs::Answers::answer_by))]
-pub fn checked(checked: refusal::Checked) -> AyAnswer
-    ensures { result ≡ answer_by (refusal_in checked) }
-{
-    match checked {
-        refusal::Checked::Passed => AyAnswer {
-            number: DONE,
-            place: 0,
-        },
-        refusal::Checked::Refused(why) => refused(why),
-    }
-}
+impl From<Result<(), Refusal>> for AyAnswer {
+    ghost from_gives = { λ checked answer. answer ≡ answer_by (refusal_in checked) };
 
-// Of writing.
-#[tactic(auto, unfolding(crate::specs::Answers::answer_by))]
-pub fn written(written: writing::Written) -> AyAnswer
-    ensures { result ≡ answer_by (refusal_in_written written) }
-{
-    match written {
-        writing::Written::Done => AyAnswer {
-            number: DONE,
-            place: 0,
-        },
-        writing::Written::Refused(why) => refused(why),
+    #[tactic(auto, unfolding(crate::specs::Answers::answer_by))]
+    fn from(checked: Result<(), Refusal>) -> Self {
+        match checked {
+            Ok(()) => AyAnswer {
+                number: DONE,
+                place: 0,
+            },
+            Err(why) => AyAnswer::from(why),
+        }
     }
 }
 
 // Of the word check.
-#[tactic(auto, unfolding(crate::specs::Answers::word_from))]
-pub fn word(soundness: soundness::Soundness) -> AyWord
-    ensures { result ≡ word_from soundness }
-{
-    match soundness {
-        soundness::Soundness::Sound => AyWord {
-            number: DONE,
-            place: 0,
-            bits: 0,
-        },
-        soundness::Soundness::Unsound(wrong) => AyWord {
-            number: DONE,
-            place: 0,
-            bits: refusal::bits(wrong),
-        },
-        soundness::Soundness::Refused(why) => refused_with(why),
+impl From<Result<Option<Wrong>, Refusal>> for AyWord {
+    ghost from_gives = { λ soundness answer. answer ≡ word_from soundness };
+
+    #[tactic(auto, unfolding(crate::specs::Answers::word_from))]
+    fn from(soundness: Result<Option<Wrong>, Refusal>) -> Self {
+        match soundness {
+            Ok(wrong) => AyWord {
+                number: DONE,
+                place: 0,
+                bits: wrong.map_or(0, u8::from),
+            },
+            Err(why) => AyWord::from(why),
+        }
     }
 }
 
 // Of the check of a codeword.
-#[tactic(auto, unfolding(crate::specs::Answers::verdict_from))]
-pub fn verdict(verdict: rs::Verdict) -> AyVerdict
-    ensures { result ≡ verdict_from verdict }
-{
-    match verdict {
-        rs::Verdict::Yes => AyVerdict {
-            number: DONE,
-            place: 0,
-            codeword: true,
-        },
-        rs::Verdict::No => AyVerdict {
-            number: DONE,
-            place: 0,
-            codeword: false,
-        },
-        rs::Verdict::Refused(why) => {
-            let answer = refused(why);
-            AyVerdict {
-                number: answer.number,
-                place: answer.place,
-                codeword: false,
+impl From<Result<bool, Refusal>> for AyVerdict {
+    ghost from_gives = { λ verdict answer. answer ≡ verdict_from verdict };
+
+    #[tactic(auto, unfolding(crate::specs::Answers::verdict_from))]
+    fn from(verdict: Result<bool, Refusal>) -> Self {
+        match verdict {
+            Ok(codeword) => AyVerdict {
+                number: DONE,
+                place: 0,
+                codeword,
+            },
+            Err(why) => {
+                let AyAnswer { number, place } = AyAnswer::from(why);
+                AyVerdict {
+                    number,
+                    place,
+                    codeword: false,
+                }
             }
         }
     }
 }
 
 // Of reading.
-#[tactic(auto, unfolding(crate::specs::Answers::packet_from))]
-pub fn packet(reading: reading::Reading) -> AyPacket
-    ensures { result ≡ packet_from reading }
-{
-    match reading {
-        reading::Reading::Accepted(p) => AyPacket {
-            number: DONE,
-            place: 0,
-            bits: 0,
-            correction: p.correction,
-            ci: p.ci,
-            fixed: p.fixed,
-        },
-        reading::Reading::Refused(why) => {
-            let answer = refused_with(why);
-            AyPacket {
-                number: answer.number,
-                place: answer.place,
-                bits: answer.bits,
-                correction: false,
-                ci: 0,
-                fixed: 0,
+impl From<Result<Packet, Refusal>> for AyPacket {
+    ghost from_gives = { λ reading answer. answer ≡ packet_from reading };
+
+    #[tactic(auto, unfolding(crate::specs::Answers::packet_from))]
+    fn from(reading: Result<Packet, Refusal>) -> Self {
+        match reading {
+            Ok(packet) => AyPacket {
+                number: DONE,
+                place: 0,
+                bits: 0,
+                correction: packet.correction,
+                ci: packet.ci,
+                fixed: packet.fixed,
+            },
+            Err(why) => {
+                let AyWord {
+                    number,
+                    place,
+                    bits,
+                } = AyWord::from(why);
+                AyPacket {
+                    number,
+                    place,
+                    bits,
+                    correction: false,
+                    ci: 0,
+                    fixed: 0,
+                }
             }
         }
     }
 }
 
 // Of repair.
-#[tactic(auto, unfolding(crate::specs::Answers::repaired_from))]
-pub fn repaired(repaired: repair::Repaired) -> AyRepaired
-    ensures { result ≡ repaired_from repaired }
-{
-    match repaired {
-        repair::Repaired::Fixed(fixed) => AyRepaired {
-            number: DONE,
-            place: 0,
-            fixed,
-        },
-        repair::Repaired::Refused(why) => {
-            let answer = refused(why);
-            AyRepaired {
-                number: answer.number,
-                place: answer.place,
-                fixed: 0,
+impl From<Result<u8, Refusal>> for AyRepaired {
+    ghost from_gives = { λ repaired answer. answer ≡ repaired_from repaired };
+
+    #[tactic(auto, unfolding(crate::specs::Answers::repaired_from))]
+    fn from(repaired: Result<u8, Refusal>) -> Self {
+        match repaired {
+            Ok(fixed) => AyRepaired {
+                number: DONE,
+                place: 0,
+                fixed,
+            },
+            Err(why) => {
+                let AyAnswer { number, place } = AyAnswer::from(why);
+                AyRepaired {
+                    number,
+                    place,
+                    fixed: 0,
+                }
             }
         }
     }
 }
 
 // Of unpacking.
-#[tactic(auto, unfolding(crate::specs::Answers::field_from))]
-pub fn field(unpacked: b40::Unpacked) -> AyField
-    ensures { result ≡ field_from unpacked }
-{
-    match unpacked {
-        b40::Unpacked::Done(head) => AyField {
-            number: DONE,
-            place: 0,
-            yc: head.yc,
-            line: head.line,
-            offset: head.offset,
-        },
-        b40::Unpacked::Refused(why) => {
-            let answer = refused(why);
-            AyField {
-                number: answer.number,
-                place: answer.place,
-                yc: false,
-                line: 0,
-                offset: 0,
+impl From<Result<Head, Refusal>> for AyField {
+    ghost from_gives = { λ unpacked answer. answer ≡ field_from unpacked };
+
+    #[tactic(auto, unfolding(crate::specs::Answers::field_from))]
+    fn from(unpacked: Result<Head, Refusal>) -> Self {
+        match unpacked {
+            Ok(head) => AyField {
+                number: DONE,
+                place: 0,
+                yc: head.yc,
+                line: head.line,
+                offset: head.offset,
+            },
+            Err(why) => {
+                let AyAnswer { number, place } = AyAnswer::from(why);
+                AyField {
+                    number,
+                    place,
+                    yc: false,
+                    line: 0,
+                    offset: 0,
+                }
             }
         }
     }
 }
 
 // Of a turn of the desk.
-#[tactic(auto, unfolding(crate::specs::Answers::turn_from))]
-pub fn turn(turn: desk::Turn) -> AyTurn
-    ensures { result ≡ turn_from turn }
-{
-    let desk = turn.desk;
-    let outcome = turn.checked;
-    let answer = checked(outcome);
-    AyTurn {
-        desk,
-        number: answer.number,
-        place: answer.place,
+impl From<Turn> for AyTurn {
+    ghost from_gives = { λ turn answer. answer ≡ turn_from turn };
+
+    #[tactic(auto, unfolding(crate::specs::Answers::turn_from))]
+    fn from(turn: Turn) -> Self {
+        let AyAnswer { number, place } = AyAnswer::from(turn.checked);
+        AyTurn {
+            desk: turn.desk,
+            number,
+            place,
+        }
     }
 }
 
@@ -299,39 +293,41 @@ fn kind_number(kind: Kind) -> u8
 }
 
 // Of what a follower heard.
-#[tactic(auto, unfolding(crate::specs::Answers::heard_from, crate::specs::Answers::followed_from))]
-pub fn followed(followed: follower::Followed) -> AyFollowed
-    ensures { result ≡ followed_from followed }
-{
-    let follower = followed.follower;
-    let heard = followed.heard;
-    match heard {
-        follower::Heard::Accepted(a) => {
-            let kind = a.kind;
-            AyFollowed {
+impl From<Followed> for AyFollowed {
+    ghost from_gives = { λ followed answer. answer ≡ followed_from followed };
+
+    #[tactic(auto, unfolding(crate::specs::Answers::heard_from, crate::specs::Answers::followed_from))]
+    fn from(followed: Followed) -> Self {
+        let Followed { follower, heard } = followed;
+        match heard {
+            Ok(arrival) => AyFollowed {
                 follower,
                 number: DONE,
                 place: 0,
                 bits: 0,
-                kind: kind_number(kind),
-                ci: a.ci,
-                fixed: a.fixed,
-                missed: a.missed,
-                onsets: a.onsets,
-            }
-        }
-        follower::Heard::Refused(why) => {
-            let answer = refused_with(why);
-            AyFollowed {
-                follower,
-                number: answer.number,
-                place: answer.place,
-                bits: answer.bits,
-                kind: 0,
-                ci: 0,
-                fixed: 0,
-                missed: 0,
-                onsets: 0,
+                kind: kind_number(arrival.kind),
+                ci: arrival.ci,
+                fixed: arrival.fixed,
+                missed: arrival.missed,
+                onsets: arrival.onsets,
+            },
+            Err(why) => {
+                let AyWord {
+                    number,
+                    place,
+                    bits,
+                } = AyWord::from(why);
+                AyFollowed {
+                    follower,
+                    number,
+                    place,
+                    bits,
+                    kind: 0,
+                    ci: 0,
+                    fixed: 0,
+                    missed: 0,
+                    onsets: 0,
+                }
             }
         }
     }

@@ -5,6 +5,7 @@ use mathlib.Core.Bool.{true}
 use mathlib.Core.List.{List, Memᴰ}
 use mathlib.Core.Option.{Option, none, some}
 use Prim.Native.Nat.{ℕ, ◌<◌}
+use Rattle.std.specs.Prelude.{Bool, Result, Ok, Err, Some, None}
 use lib.Dec.{ltb}
 use native.Mathlib.Omega.{arith}
 use borrow.Author.Tests.{ltb-true}
@@ -14,27 +15,13 @@ use Rattle.refusal.specs.Number.{number_of, fixed_list}
 use Rattle.refusal.specs.declared.Reason.{Reason}
 use Rattle.refusal.specs.declared.Refusal.{Refusal}
 use Rattle.refusal.proofs.Laws.Number.{number-on-list}
-use Rattle.soundness.specs.declared.Soundness.{Soundness}
-use Rattle.soundness.specs.declared.Soundness.TheVariants.{Sound, Unsound, Refused as RefusedWord}
-use Rattle.soundness.specs.Check.{refusal_in as refusal_in_word}
-use Rattle.rs.specs.declared.Verdict.{Verdict}
-use Rattle.rs.specs.declared.Verdict.TheVariants.{Yes, No, Refused as RefusedBlock}
-use Rattle.rs.specs.Check.{refusal_in as refusal_in_verdict}
-use Rattle.reading.specs.declared.Reading.{Reading}
-use Rattle.reading.specs.declared.Reading.TheVariants.{Accepted, Refused}
-use Rattle.repair.specs.declared.Repaired.{Repaired}
-use Rattle.repair.specs.declared.Repaired.TheVariants.{Fixed, Refused as RefusedRepair}
-use Rattle.reading.specs.Answer.{refusal_in as refusal_in_reading}
-use Rattle.repair.specs.Repair.{refusal_in as refusal_in_repaired}
 use Rattle.refusal.specs.Checked.{refusal_in}
-use Rattle.b40.specs.declared.Unpacked.{Unpacked}
-use Rattle.b40.specs.declared.Unpacked.TheVariants.{Done as HeadOf, Refused as RefusedField}
-use Rattle.b40.specs.Unpacking.{refusal_in as refusal_in_field}
+use Rattle.soundness.specs.Check.{Soundness}
+use Rattle.reading.specs.declared.Packet.{Packet}
+use Rattle.b40.specs.declared.Head.{Head}
 use Rattle.desk.specs.declared.Turn.{Turn}
+use Rattle.follower.specs.declared.Arrival.{Arrival}
 use Rattle.follower.specs.declared.Follower.{Follower}
-use Rattle.follower.specs.declared.Heard.{Heard}
-use Rattle.follower.specs.declared.Heard.TheVariants.{Accepted as Arrived, Refused as RefusedPacket}
-use Rattle.follower.specs.Follower.{refusal_in as refusal_in_heard}
 use Rattle.follower.specs.declared.Followed.{Followed}
 use Rattle.answers.specs.Answers.{done, answer_by, word_from, verdict_from, packet_from, repaired_from, field_from, turn_from, heard_from, followed_from}
 
@@ -69,42 +56,41 @@ pub record Says (number place : ℕ) (o : Option Refusal) : Type 0 where
   pub number_is : number ≡ (answer_by o).number
   pub place_is : place ≡ (answer_by o).place
 
-pub word-says : (a : Soundness) → Says (word_from a).number (word_from a).place (refusal_in_word a)
+pub word-says : (a : Soundness) → Says (word_from a).number (word_from a).place (refusal_in a)
 unfolding word_from answer_by
-word-says Sound = record { number_is = refl; place_is = refl }
-word-says (Unsound wrong) = record { number_is = refl; place_is = refl }
-word-says (RefusedWord why) = record { number_is = refl; place_is = refl }
+word-says (Ok None) = record { number_is = refl; place_is = refl }
+word-says (Ok (Some wrong)) = record { number_is = refl; place_is = refl }
+word-says (Err why) = record { number_is = refl; place_is = refl }
 
-pub verdict-says : (v : Verdict) → Says (verdict_from v).number (verdict_from v).place (refusal_in_verdict v)
+pub verdict-says : (v : Result Bool Refusal) → Says (verdict_from v).number (verdict_from v).place (refusal_in v)
 unfolding verdict_from answer_by
-verdict-says Yes = record { number_is = refl; place_is = refl }
-verdict-says No = record { number_is = refl; place_is = refl }
-verdict-says (RefusedBlock why) = record { number_is = refl; place_is = refl }
+verdict-says (Ok codeword) = record { number_is = refl; place_is = refl }
+verdict-says (Err why) = record { number_is = refl; place_is = refl }
 
-pub packet-says : (r : Reading) → Says (packet_from r).number (packet_from r).place (refusal_in_reading r)
+pub packet-says : (r : Result Packet Refusal) → Says (packet_from r).number (packet_from r).place (refusal_in r)
 unfolding packet_from answer_by
-packet-says (Accepted p) = record { number_is = refl; place_is = refl }
-packet-says (Refused why) = record { number_is = refl; place_is = refl }
+packet-says (Ok p) = record { number_is = refl; place_is = refl }
+packet-says (Err why) = record { number_is = refl; place_is = refl }
 
-pub repaired-says : (r : Repaired) → Says (repaired_from r).number (repaired_from r).place (refusal_in_repaired r)
+pub repaired-says : (r : Result ℕ Refusal) → Says (repaired_from r).number (repaired_from r).place (refusal_in r)
 unfolding repaired_from answer_by
-repaired-says (Fixed n) = record { number_is = refl; place_is = refl }
-repaired-says (RefusedRepair why) = record { number_is = refl; place_is = refl }
+repaired-says (Ok n) = record { number_is = refl; place_is = refl }
+repaired-says (Err why) = record { number_is = refl; place_is = refl }
 
-pub field-says : (u : Unpacked) → Says (field_from u).number (field_from u).place (refusal_in_field u)
+pub field-says : (u : Result Head Refusal) → Says (field_from u).number (field_from u).place (refusal_in u)
 unfolding field_from answer_by
-field-says (HeadOf h) = record { number_is = refl; place_is = refl }
-field-says (RefusedField why) = record { number_is = refl; place_is = refl }
+field-says (Ok h) = record { number_is = refl; place_is = refl }
+field-says (Err why) = record { number_is = refl; place_is = refl }
 
 pub turn-says : (t : Turn) → Says (turn_from t).number (turn_from t).place (refusal_in t.checked)
 unfolding turn_from
 turn-says t = record { number_is = refl; place_is = refl }
 
-heard-says : (f : Follower) (h : Heard) → Says (heard_from f h).number (heard_from f h).place (refusal_in_heard h)
+heard-says : (f : Follower) (h : Result Arrival Refusal) → Says (heard_from f h).number (heard_from f h).place (refusal_in h)
 unfolding heard_from answer_by
-heard-says f (Arrived a) = record { number_is = refl; place_is = refl }
-heard-says f (RefusedPacket why) = record { number_is = refl; place_is = refl }
+heard-says f (Ok a) = record { number_is = refl; place_is = refl }
+heard-says f (Err why) = record { number_is = refl; place_is = refl }
 
-pub followed-says : (x : Followed) → Says (followed_from x).number (followed_from x).place (refusal_in_heard x.heard)
+pub followed-says : (x : Followed) → Says (followed_from x).number (followed_from x).place (refusal_in x.heard)
 unfolding followed_from
 followed-says x = heard-says x.follower x.heard

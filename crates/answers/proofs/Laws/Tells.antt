@@ -5,10 +5,10 @@ use mathlib.Core.Path.{◌≡◌, refl, ap, sym, ◌∙◌}
 use mathlib.Core.Bool.{cond}
 use mathlib.Core.Option.{Option, none, some}
 use Prim.Native.Nat.{ℕ, ◌<◌}
+use Rattle.std.specs.Prelude.{Bool, Result, Ok, Err, Some, None}
 use lib.Dec.{eqb}
 use native.Mathlib.Omega.{arith}
 use borrow.Author.Tests.{leb-true, leb-false}
-use Rattle.basics.proofs.Laws.Test.{never}
 use Rattle.refusal.specs.Number.{number_of, bits_of, bits_in}
 use Rattle.refusal.specs.declared.Wrong.{Wrong}
 use Rattle.refusal.specs.declared.Reason.{Reason}
@@ -16,29 +16,16 @@ use Rattle.refusal.specs.declared.Reason.TheVariants.{Parity}
 use Rattle.refusal.specs.declared.Refusal.{Refusal}
 use Rattle.refusal.proofs.Laws.Number.{number-inj, bits-seven}
 use Rattle.refusal.proofs.Laws.Chain.{checked-in, Without}
-use Rattle.soundness.specs.declared.Soundness.{Soundness}
-use Rattle.soundness.specs.declared.Soundness.TheVariants.{Sound, Unsound, Refused as RefusedWord}
-use Rattle.rs.specs.declared.Verdict.{Verdict}
-use Rattle.rs.specs.declared.Verdict.TheVariants.{Yes, No, Refused as RefusedBlock}
-use Rattle.rs.specs.Check.{refusal_in as refusal_in_verdict}
-use Rattle.reading.specs.declared.Reading.{Reading}
-use Rattle.reading.specs.declared.Reading.TheVariants.{Accepted, Refused}
-use Rattle.repair.specs.declared.Repaired.{Repaired}
-use Rattle.repair.specs.declared.Repaired.TheVariants.{Fixed, Refused as RefusedRepair}
-use Rattle.b40.specs.declared.Unpacked.{Unpacked}
-use Rattle.b40.specs.declared.Unpacked.TheVariants.{Done as HeadOf, Refused as RefusedField}
-use Rattle.refusal.specs.declared.Checked.{Checked}
-use Rattle.refusal.specs.Checked.{checked_of, refusal_in}
-use Rattle.repair.specs.Repair.{refusal_in as refusal_in_repaired}
-use Rattle.b40.specs.Unpacking.{refusal_in as refusal_in_field}
+use Rattle.refusal.specs.Checked.{Checked, checked_of, refusal_in}
+use Rattle.soundness.specs.Check.{Soundness}
+use Rattle.reading.specs.declared.Packet.{Packet}
+use Rattle.b40.specs.declared.Head.{Head}
 use Rattle.desk.specs.declared.Desk.{Desk}
 use Rattle.desk.specs.declared.Turn.{Turn}
 use Rattle.sequence.specs.declared.Kind.{Kind}
 use Rattle.sequence.specs.declared.Kind.TheVariants.{First, Next, Repeat, Conflict}
 use Rattle.follower.specs.declared.Arrival.{Arrival}
 use Rattle.follower.specs.declared.Follower.{Follower}
-use Rattle.follower.specs.declared.Heard.{Heard}
-use Rattle.follower.specs.declared.Heard.TheVariants.{Accepted as Arrived, Refused as RefusedPacket}
 use Rattle.follower.specs.declared.Followed.{Followed}
 use Rattle.answers.specs.declared.AyAnswer.{AyAnswer}
 use Rattle.answers.specs.declared.AyWord.{AyWord}
@@ -92,53 +79,48 @@ bits_positive a e = absurd (omega (arith, leb-true 1 (bits_of a) (bits-seven (Pa
 
 pub word-tells : (a b : Soundness) → word_from a ≡ word_from b → a ≡ b
 unfolding word_from
-word-tells Sound Sound e = refl
-word-tells Sound (Unsound b) e = bits_positive b (sym (ap (λ (x : AyWord). x.bits) e))
-word-tells Sound (RefusedWord b) e = never-zero b.reason (sym (ap (λ (x : AyWord). x.number) e))
-word-tells (Unsound a) Sound e = bits_positive a (ap (λ (x : AyWord). x.bits) e)
-word-tells (Unsound a) (Unsound b) e = ap Unsound (bits-known a b (ap (λ (x : AyWord). x.bits) e))
-word-tells (Unsound a) (RefusedWord b) e = never-zero b.reason (sym (ap (λ (x : AyWord). x.number) e))
-word-tells (RefusedWord a) Sound e = never-zero a.reason (ap (λ (x : AyWord). x.number) e)
-word-tells (RefusedWord a) (Unsound b) e = never-zero a.reason (ap (λ (x : AyWord). x.number) e)
-word-tells (RefusedWord a) (RefusedWord b) e =
-    ap RefusedWord (refusal-known a b (ap (λ (x : AyWord). x.number) e) (ap (λ (x : AyWord). x.place) e) (ap (λ (x : AyWord). x.bits) e))
+word-tells (Ok None) (Ok None) e = refl
+word-tells (Ok None) (Ok (Some b)) e = bits_positive b (sym (ap (λ (x : AyWord). x.bits) e))
+word-tells (Ok None) (Err b) e = never-zero b.reason (sym (ap (λ (x : AyWord). x.number) e))
+word-tells (Ok (Some a)) (Ok None) e = bits_positive a (ap (λ (x : AyWord). x.bits) e)
+word-tells (Ok (Some a)) (Ok (Some b)) e = ap (λ (w : Wrong). Ok (Some w)) (bits-known a b (ap (λ (x : AyWord). x.bits) e))
+word-tells (Ok (Some a)) (Err b) e = never-zero b.reason (sym (ap (λ (x : AyWord). x.number) e))
+word-tells (Err a) (Ok None) e = never-zero a.reason (ap (λ (x : AyWord). x.number) e)
+word-tells (Err a) (Ok (Some b)) e = never-zero a.reason (ap (λ (x : AyWord). x.number) e)
+word-tells (Err a) (Err b) e =
+    ap Err (refusal-known a b (ap (λ (x : AyWord). x.number) e) (ap (λ (x : AyWord). x.place) e) (ap (λ (x : AyWord). x.bits) e))
 
-pub verdict-tells : (a b : Verdict) → Without 7 (refusal_in_verdict a) → Without 7 (refusal_in_verdict b) → verdict_from a ≡ verdict_from b → a ≡ b
+pub verdict-tells : (a b : Result Bool Refusal) → Without 7 (refusal_in a) → Without 7 (refusal_in b) → verdict_from a ≡ verdict_from b → a ≡ b
 unfolding verdict_from
-verdict-tells Yes Yes v w e = refl
-verdict-tells Yes No v w e = never (ap (λ (x : AyVerdict). x.codeword) e)
-verdict-tells Yes (RefusedBlock b) v w e = never (ap (λ (x : AyVerdict). x.codeword) e)
-verdict-tells No Yes v w e = never (sym (ap (λ (x : AyVerdict). x.codeword) e))
-verdict-tells No No v w e = refl
-verdict-tells No (RefusedBlock b) v w e = never-zero b.reason (sym (ap (λ (x : AyVerdict). x.number) e))
-verdict-tells (RefusedBlock a) Yes v w e = never (sym (ap (λ (x : AyVerdict). x.codeword) e))
-verdict-tells (RefusedBlock a) No v w e = never-zero a.reason (ap (λ (x : AyVerdict). x.number) e)
-verdict-tells (RefusedBlock a) (RefusedBlock b) v w e =
-    ap RefusedBlock (bare-known a b v w (ap (λ (x : AyVerdict). x.number) e) (ap (λ (x : AyVerdict). x.place) e))
+verdict-tells (Ok a) (Ok b) v w e = ap (λ (x : AyVerdict). Ok x.codeword) e
+verdict-tells (Ok a) (Err b) v w e = never-zero b.reason (sym (ap (λ (x : AyVerdict). x.number) e))
+verdict-tells (Err a) (Ok b) v w e = never-zero a.reason (ap (λ (x : AyVerdict). x.number) e)
+verdict-tells (Err a) (Err b) v w e =
+    ap Err (bare-known a b v w (ap (λ (x : AyVerdict). x.number) e) (ap (λ (x : AyVerdict). x.place) e))
 
-pub packet-tells : (a b : Reading) → packet_from a ≡ packet_from b → a ≡ b
+pub packet-tells : (a b : Result Packet Refusal) → packet_from a ≡ packet_from b → a ≡ b
 unfolding packet_from
-packet-tells (Accepted p) (Accepted q) e = ap (λ (x : AyPacket). Accepted (record { correction = x.correction; ci = x.ci; fixed = x.fixed })) e
-packet-tells (Accepted p) (Refused b) e = never-zero b.reason (sym (ap (λ (x : AyPacket). x.number) e))
-packet-tells (Refused a) (Accepted q) e = never-zero a.reason (ap (λ (x : AyPacket). x.number) e)
-packet-tells (Refused a) (Refused b) e =
-    ap Refused (refusal-known a b (ap (λ (x : AyPacket). x.number) e) (ap (λ (x : AyPacket). x.place) e) (ap (λ (x : AyPacket). x.bits) e))
+packet-tells (Ok p) (Ok q) e = ap (λ (x : AyPacket). Ok (record { correction = x.correction; ci = x.ci; fixed = x.fixed })) e
+packet-tells (Ok p) (Err b) e = never-zero b.reason (sym (ap (λ (x : AyPacket). x.number) e))
+packet-tells (Err a) (Ok q) e = never-zero a.reason (ap (λ (x : AyPacket). x.number) e)
+packet-tells (Err a) (Err b) e =
+    ap Err (refusal-known a b (ap (λ (x : AyPacket). x.number) e) (ap (λ (x : AyPacket). x.place) e) (ap (λ (x : AyPacket). x.bits) e))
 
-pub repaired-tells : (a b : Repaired) → Without 7 (refusal_in_repaired a) → Without 7 (refusal_in_repaired b) → repaired_from a ≡ repaired_from b → a ≡ b
+pub repaired-tells : (a b : Result ℕ Refusal) → Without 7 (refusal_in a) → Without 7 (refusal_in b) → repaired_from a ≡ repaired_from b → a ≡ b
 unfolding repaired_from
-repaired-tells (Fixed m) (Fixed n) v w e = ap (λ (x : AyRepaired). Fixed x.fixed) e
-repaired-tells (Fixed m) (RefusedRepair b) v w e = never-zero b.reason (sym (ap (λ (x : AyRepaired). x.number) e))
-repaired-tells (RefusedRepair a) (Fixed n) v w e = never-zero a.reason (ap (λ (x : AyRepaired). x.number) e)
-repaired-tells (RefusedRepair a) (RefusedRepair b) v w e =
-    ap RefusedRepair (bare-known a b v w (ap (λ (x : AyRepaired). x.number) e) (ap (λ (x : AyRepaired). x.place) e))
+repaired-tells (Ok m) (Ok n) v w e = ap (λ (x : AyRepaired). Ok x.fixed) e
+repaired-tells (Ok m) (Err b) v w e = never-zero b.reason (sym (ap (λ (x : AyRepaired). x.number) e))
+repaired-tells (Err a) (Ok n) v w e = never-zero a.reason (ap (λ (x : AyRepaired). x.number) e)
+repaired-tells (Err a) (Err b) v w e =
+    ap Err (bare-known a b v w (ap (λ (x : AyRepaired). x.number) e) (ap (λ (x : AyRepaired). x.place) e))
 
-pub field-tells : (a b : Unpacked) → Without 7 (refusal_in_field a) → Without 7 (refusal_in_field b) → field_from a ≡ field_from b → a ≡ b
+pub field-tells : (a b : Result Head Refusal) → Without 7 (refusal_in a) → Without 7 (refusal_in b) → field_from a ≡ field_from b → a ≡ b
 unfolding field_from
-field-tells (HeadOf h) (HeadOf k) v w e = ap (λ (x : AyField). HeadOf (record { yc = x.yc; line = x.line; offset = x.offset })) e
-field-tells (HeadOf h) (RefusedField b) v w e = never-zero b.reason (sym (ap (λ (x : AyField). x.number) e))
-field-tells (RefusedField a) (HeadOf k) v w e = never-zero a.reason (ap (λ (x : AyField). x.number) e)
-field-tells (RefusedField a) (RefusedField b) v w e =
-    ap RefusedField (bare-known a b v w (ap (λ (x : AyField). x.number) e) (ap (λ (x : AyField). x.place) e))
+field-tells (Ok h) (Ok k) v w e = ap (λ (x : AyField). Ok (record { yc = x.yc; line = x.line; offset = x.offset })) e
+field-tells (Ok h) (Err b) v w e = never-zero b.reason (sym (ap (λ (x : AyField). x.number) e))
+field-tells (Err a) (Ok h) v w e = never-zero a.reason (ap (λ (x : AyField). x.number) e)
+field-tells (Err a) (Err b) v w e =
+    ap Err (bare-known a b v w (ap (λ (x : AyField). x.number) e) (ap (λ (x : AyField). x.place) e))
 
 pub turn-tells : (a b : Turn) → Without 7 (refusal_in a.checked) → Without 7 (refusal_in b.checked) → turn_from a ≡ turn_from b → a ≡ b
 unfolding turn_from
@@ -164,23 +146,23 @@ kind-back Conflict = refl
 arrival_in : AyFollowed → Arrival
 arrival_in x = record { kind = kind_named x.kind; ci = x.ci; fixed = x.fixed; missed = x.missed; onsets = x.onsets }
 
-arrival-back : (f : Follower) (a : Arrival) → arrival_in (heard_from f (Arrived a)) ≡ a
+arrival-back : (f : Follower) (a : Arrival) → arrival_in (heard_from f (Ok a)) ≡ a
 unfolding arrival_in heard_from
 arrival-back f a = rw (kind-back a.kind)
 
-heard-tells : (f g : Follower) (a b : Heard) → heard_from f a ≡ heard_from g b → a ≡ b
+heard-tells : (f g : Follower) (a b : Result Arrival Refusal) → heard_from f a ≡ heard_from g b → a ≡ b
 unfolding heard_from
-heard-tells f g (Arrived a) (Arrived b) e = ap Arrived (sym (arrival-back f a) ∙ ap arrival_in e ∙ arrival-back g b)
-heard-tells f g (Arrived a) (RefusedPacket b) e = never-zero b.reason (sym (ap (λ (x : AyFollowed). x.number) e))
-heard-tells f g (RefusedPacket a) (Arrived b) e = never-zero a.reason (ap (λ (x : AyFollowed). x.number) e)
-heard-tells f g (RefusedPacket a) (RefusedPacket b) e =
-    ap RefusedPacket (refusal-known a b (ap (λ (x : AyFollowed). x.number) e) (ap (λ (x : AyFollowed). x.place) e) (ap (λ (x : AyFollowed). x.bits) e))
+heard-tells f g (Ok a) (Ok b) e = ap Ok (sym (arrival-back f a) ∙ ap arrival_in e ∙ arrival-back g b)
+heard-tells f g (Ok a) (Err b) e = never-zero b.reason (sym (ap (λ (x : AyFollowed). x.number) e))
+heard-tells f g (Err a) (Ok b) e = never-zero a.reason (ap (λ (x : AyFollowed). x.number) e)
+heard-tells f g (Err a) (Err b) e =
+    ap Err (refusal-known a b (ap (λ (x : AyFollowed). x.number) e) (ap (λ (x : AyFollowed). x.place) e) (ap (λ (x : AyFollowed). x.bits) e))
 
 -- the follower in the struct is the one handed back
-follower-back : (f : Follower) (h : Heard) → (heard_from f h).follower ≡ f
+follower-back : (f : Follower) (h : Result Arrival Refusal) → (heard_from f h).follower ≡ f
 unfolding heard_from
-follower-back f (Arrived a) = refl
-follower-back f (RefusedPacket why) = refl
+follower-back f (Ok a) = refl
+follower-back f (Err why) = refl
 
 pub followed-tells : (a b : Followed) → followed_from a ≡ followed_from b → a ≡ b
 unfolding followed_from
@@ -189,5 +171,5 @@ followed-tells a b e =
     (sym (follower-back _ a.heard) ∙ ap (λ (x : AyFollowed). x.follower) e ∙ follower-back _ b.heard)
     (heard-tells a.follower b.follower a.heard b.heard e)
   where
-    together : (f g : Follower) (h k : Heard) → f ≡ g → h ≡ k → ◌≡◌ {A = Followed} (record { follower = f; heard = h }) (record { follower = g; heard = k })
+    together : (f g : Follower) (h k : Result Arrival Refusal) → f ≡ g → h ≡ k → ◌≡◌ {A = Followed} (record { follower = f; heard = h }) (record { follower = g; heard = k })
     together f g h k p q = rw (p, q)
