@@ -76,7 +76,8 @@ pub fn low_bytes(words: &[u16], out: &mut [u8]) -> Result<(), Refusal>
     Ok(())
 }
 
-// Fills `out` with the sound words of the bytes. Room for another number of words is refused, and stays as it was.
+// Fills `out` with the sound words of the bytes. Room for another number of words is refused, and stays as it was. (Not one function with `low_bytes`, over
+// what is made of an entry: its contract would have to say of a closure over two types what these two say in a line each.)
 pub fn sound_words(bytes: &[u8], out: &mut [u16]) -> Result<(), Refusal>
     ensures { (result ≡ checked_of (fill_refusal (sound_words bytes.now) (length out.old))) × (out.new ≡ fill_leaves (sound_words bytes.now) out.old) }
 {

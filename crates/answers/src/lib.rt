@@ -279,7 +279,7 @@ impl From<Turn> for AyTurn {
     }
 }
 
-// The number of a kind.
+// The number that a kind has for C.
 #[tactic(auto, unfolding(crate::specs::Answers::kind_number))]
 fn kind_number(kind: Kind) -> u8
     ensures { result ≡ kind_number kind }

@@ -47,7 +47,7 @@ pub fn log_in(logs: &[u8; 256], a: u8) -> usize
     usize::from(logs[usize::from(a)])
 }
 
-// The product over lent tables.
+// The product over lent tables, whatever is in them; `Tables` has the right ones. It stays as docs/DECISIONS.md has it.
 #[tactic(auto, unfolding(crate::specs::Lent::product_in))]
 pub fn product_in(wheel: &[u8; 1021], logs: &[u8; 256], a: u8, b: u8) -> u8
     ensures { result ≡ product_in wheel.now logs.now a b }
@@ -55,7 +55,7 @@ pub fn product_in(wheel: &[u8; 1021], logs: &[u8; 256], a: u8, b: u8) -> u8
     wheel[log_in(logs, a) + log_in(logs, b)]
 }
 
-// The quotient over lent tables; by 0 it is 0.
+// The quotient over lent tables, whatever is in them; by 0 it is 0. It stays as docs/DECISIONS.md has it.
 pub fn quotient_in(wheel: &[u8; 1021], logs: &[u8; 256], a: u8, b: u8) -> u8
     ensures { result ≡ quotient_in wheel.now logs.now a b }
 {

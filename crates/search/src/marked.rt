@@ -7,7 +7,7 @@ use crate::errors::{Error, Place};
 use crate::{solver, values};
 use gf256::Tables;
 
-// How many places are marked, and which, where they are at most six.
+// How many places are marked, and which, where they are at most six. Fixed memory: six places with their count, which goes on to 254.
 #[derive(Clone, Copy)]
 pub(crate) struct Marks {
     pub(crate) count: usize,

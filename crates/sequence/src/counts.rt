@@ -1,4 +1,4 @@
-// What a packet adds to the counts, by its kind.
+// What a packet adds to the counts, by its kind. Two functions and no table of kinds: each is one comparison.
 ghost use Rattle.std.specs.Prelude.{◌≡◌};
 ghost use Rattle.sequence.specs.Sequence.{repeats_in, conflicts_in};
 
