@@ -1,4 +1,3 @@
-pub mod Sums
 pub mod Solve
 pub mod Judge
 pub mod Try

@@ -82,10 +82,12 @@ fn three(tables: &Tables, s: u8, t: u8, u: u8, x: u8, y: u8, z: u8) -> [u8; 3]
 fn values(errors: [Error; 3]) -> [u8; 3]
     ensures { result ≡ values_of errors }
 {
-    errors.map(|e| e.value)
+    let [d, e, f] = errors;
+    [d.value, e.value, f.value]
 }
 
 // Do the errors have all six sums? In turn m, the parts are their values, each times its element to the power m.
+#[inline(always)]
 fn explained(tables: &Tables, s: [u8; 6], errors: [Error; 3]) -> bool
     requires { Below 254 (places_of errors) }
     ensures { Judges s errors result }
@@ -109,6 +111,7 @@ fn explained(tables: &Tables, s: [u8; 6], errors: [Error; 3]) -> bool
 }
 
 // The errors, where they have all six sums.
+#[inline(always)]
 fn judged(tables: &Tables, s: [u8; 6], errors: [Error; 3]) -> Option<[Error; 3]>
     requires { Below 254 (places_of errors) }
     ensures { Settles (λ es. es ≡ errors) (Has s errors → ⊥) s result }

@@ -1,6 +1,6 @@
 -- What the private functions of the search promise. A reader of the public contracts may pass over this file.
 -- Assumes nothing.
-use Rattle.std.specs.Prelude.{◌≡◌, Bool, true, false, List, [], ◌∷◌, ℕ, suc, ◌+◌, ◌-◌, ◌<◌, length, get_or, set, Option, IfSome, IsSomeAnd}
+use Rattle.std.specs.Prelude.{◌≡◌, Bool, true, false, List, [], ◌∷◌, ℕ, ◌+◌, ◌-◌, ◌<◌, length, get_or, set, Option, IfSome, IsSomeAnd}
 use Rattle.gf256.specs.Field.{◌⊕◌, ◌⊗◌, pow, over}
 use Rattle.gf256.specs.PowerSum.{Term, power_sum}
 use Rattle.rs.specs.Polynomial.{value_at}
@@ -47,7 +47,7 @@ locator_two s =
 -- the determinant of three of the columns s_i, s_(i+1), s_(i+2)
 abbrev pub minor_of : List ℕ → ℕ → ℕ → ℕ → ℕ
 minor_of s i j k =
-    determinant (get_or s i 0) (get_or s (suc i) 0) (get_or s (suc (suc i)) 0) (get_or s j 0) (get_or s (suc j) 0) (get_or s (suc (suc j)) 0) (get_or s k 0) (get_or s (suc k) 0) (get_or s (suc (suc k)) 0)
+    determinant (get_or s i 0) (get_or s (i + 1) 0) (get_or s (i + 2) 0) (get_or s j 0) (get_or s (j + 1) 0) (get_or s (j + 2) 0) (get_or s k 0) (get_or s (k + 1) 0) (get_or s (k + 2) 0)
 
 -- the locator of three errors, from six sums
 unfoldable pub locator_three : List ℕ → Locator

@@ -18,11 +18,7 @@ pub(crate) struct Marks {
 fn flag(word: u16) -> u8
     ensures { result ≡ flag_of word }
 {
-    if word == anc::word_of((word % 256) as u8) {
-        0
-    } else {
-        1
-    }
+    u8::from(word != anc::word_of((word % 256) as u8))
 }
 
 // The flag of each word. With no early return, so that the words can be taken many at a time.

@@ -3,7 +3,7 @@
 ghost use Rattle.std.specs.Prelude.{◌≡◌, true, ◌<◌, ◌≤◌};
 ghost use Rattle.gf256.specs.Field.{◌⊕◌, ◌⊗◌};
 ghost use Rattle.rs.specs.Polynomial.{value_at};
-ghost use Rattle.search.specs.Search.{killed_of, Steps, locator_two, locator_three, TopRoot, IsPlace, determinant, terms_of, Explains, Adds, FindsOne, FindsTwo, FindsThree, Held, sums_of};
+ghost use Rattle.search.specs.Search.{killed_of, Steps, locator_two, locator_three, TopRoot, IsPlace, minor_of, terms_of, Explains, Adds, FindsOne, FindsTwo, FindsThree, Held, sums_of};
 
 use crate::errors::{Error, Place};
 use gf256::Tables;
@@ -37,15 +37,19 @@ pub(crate) fn cross(tables: &Tables, a: u8, b: u8, c: u8, d: u8) -> u8
     gf256::sum(tables.product(a, b), tables.product(c, d))
 }
 
-// The determinant of the columns a b c, d e f and g h i.
+// The determinant of three columns, each of three sums that follow one another: from the i-th, from the j-th and from the k-th on.
 #[tactic(auto, unfolding(crate::specs::Search::determinant))]
-fn minor(tables: &Tables, a: u8, b: u8, c: u8, d: u8, e: u8, f: u8, g: u8, h: u8, i: u8) -> u8
-    ensures { result ≡ determinant a b c d e f g h i }
+fn minor(tables: &Tables, s: [u8; 6], i: usize, j: usize, k: usize) -> u8
+    requires { (i < 4) × (j < 4) × (k < 4) }
+    ensures { result ≡ minor_of s i j k }
 {
-    let first = tables.product(a, cross(tables, e, i, f, h));
-    let second = tables.product(d, cross(tables, b, i, c, h));
-    let third = tables.product(g, cross(tables, b, f, c, e));
-    gf256::sum(first, gf256::sum(second, third))
+    let first = cross(tables, s[j + 1], s[k + 2], s[j + 2], s[k + 1]);
+    let second = cross(tables, s[i + 1], s[k + 2], s[i + 2], s[k + 1]);
+    let third = cross(tables, s[i + 1], s[j + 2], s[i + 2], s[j + 1]);
+    gf256::sum(
+        tables.product(s[i], first),
+        gf256::sum(tables.product(s[j], second), tables.product(s[k], third)),
+    )
 }
 
 // The value at x of the polynomial of six bytes, by Horner's rule.
@@ -59,32 +63,25 @@ fn value(tables: &Tables, bytes: [u8; 6], x: u8) -> u8
     v
 }
 
-// The six sums of six bytes.
+// The six sums of six bytes: their values at the powers 0 to 5 of 2.
 pub(crate) fn sums(tables: &Tables, bytes: [u8; 6]) -> [u8; 6]
     ensures { result ≡ sums_of bytes }
 {
-    [
-        value(tables, bytes, 1),
-        value(tables, bytes, 2),
-        value(tables, bytes, 4),
-        value(tables, bytes, 8),
-        value(tables, bytes, 16),
-        value(tables, bytes, 32),
-    ]
+    let mut s = [0; 6];
+    for j in 0..6 {
+        s[j] = value(tables, bytes, tables.power(j));
+    }
+    s
 }
 
-// The five sums that are left of six once the place x is killed.
-pub(crate) fn killed(tables: &Tables, s: [u8; 6], x: u8) -> [u8; 6]
-    ensures { result ≡ killed_of x s }
+// Kills the place x: of six sums five are left, and a 0.
+pub(crate) fn kill(tables: &Tables, s: &mut [u8; 6], x: u8)
+    ensures { s.new ≡ killed_of x s.old }
 {
-    [
-        plus_times(tables, s[1], x, s[0]),
-        plus_times(tables, s[2], x, s[1]),
-        plus_times(tables, s[3], x, s[2]),
-        plus_times(tables, s[4], x, s[3]),
-        plus_times(tables, s[5], x, s[4]),
-        0,
-    ]
+    for j in 0..5 {
+        s[j] = plus_times(tables, s[j + 1], x, s[j]);
+    }
+    s[5] = 0;
 }
 
 // Do the n sums from the fifth on go on by a and b? (Those before them do, by how a and b are worked out.)
@@ -159,15 +156,11 @@ fn locator_two(tables: &Tables, s: [u8; 6]) -> Locator
 fn locator_three(tables: &Tables, s: [u8; 6]) -> Locator
     ensures { result ≡ locator_three s }
 {
-    let [s0, s1, s2, s3, s4, s5] = s;
-    let d = minor(tables, s0, s1, s2, s1, s2, s3, s2, s3, s4);
-    let a = minor(tables, s0, s1, s2, s1, s2, s3, s3, s4, s5);
-    let b = minor(tables, s0, s1, s2, s2, s3, s4, s3, s4, s5);
-    let c = minor(tables, s1, s2, s3, s2, s3, s4, s3, s4, s5);
+    let d = minor(tables, s, 0, 1, 2);
     Locator {
-        a: tables.quotient(a, d),
-        b: tables.quotient(b, d),
-        c: tables.quotient(c, d),
+        a: tables.quotient(minor(tables, s, 0, 1, 3), d),
+        b: tables.quotient(minor(tables, s, 0, 2, 3), d),
+        c: tables.quotient(minor(tables, s, 1, 2, 3), d),
     }
 }
 
@@ -202,7 +195,9 @@ pub(crate) fn three_errors(tables: &Tables, s: [u8; 6]) -> Option<[Error; 3]>
 {
     let first = top_root(tables, locator_three(tables, s))?;
     let x = tables.power(first.exponent);
-    let left = two_errors(tables, killed(tables, s, x), 5)?;
+    let mut rest = s;
+    kill(tables, &mut rest, x);
+    let left = two_errors(tables, rest, 5)?;
     let second = left[0].place;
     let third = left[1].place;
     let y = tables.quotient(left[0].value, gf256::sum(x, tables.power(second.exponent)));

@@ -22,8 +22,7 @@ pub(crate) fn kill_places(tables: &Tables, s: [u8; 6], places: [Place; 6], n: us
     let mut left = s;
     for i in 0..n {
         firsts[i] = left[0];
-        let next = solver::killed(tables, left, tables.power(places[i].exponent));
-        left = next;
+        solver::kill(tables, &mut left, tables.power(places[i].exponent));
     }
     Killed { firsts, left }
 }

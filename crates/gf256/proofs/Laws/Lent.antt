@@ -42,14 +42,7 @@ pub log-pos : (l : List ℕ) (a : ℕ) → 0 < a → a < 256 → LogTable l → 
 log-pos l zero p h t = absurd (omega arith)
 log-pos l (suc a) p h t = log-suc l a h t
 
-pub log-pow : (l : List ℕ) (k : ℕ) → k < 255 → LogTable l → log_in l (pow 2 k) ≡ k
-log-pow l k h t = let L = log-pos l (pow 2 k) (pow_pos k) (pow-lt 2 k) t in pow-inj _ k L.within h L.at
-
 -- ---- the product
-
-pub wheel-lt : (w : List ℕ) (k : ℕ) → Wheel w → get_or w k 0 < 256
-wheel-lt w k W =
-    ⊎_elim (λ (h : k < 510). rw (W.at k h) (pow-lt 2 k)) (λ (h : 510 ≤ k). rw (W.past k h) (lit< tt)) (lt-or-le k 510)
 
 pub product-right : (w l : List ℕ) (a b : ℕ) → Wheel w → LogTable l → a < 256 → b < 256 → product_in w l a b ≡ a ⊗ b
 unfolding product_in

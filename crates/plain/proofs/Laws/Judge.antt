@@ -30,7 +30,7 @@ part-more x y m u v e f = f ∙ ap (λ (p : ℕ). p ⊗ x) e ∙ ⊗-assoc y _ x
 abbrev pub none : Error
 none = record { place = 0; value = 0 }
 
-three-are : (es : List Error) → length es ≡ 3 → es ≡ get_or es 0 none ∷ get_or es 1 none ∷ get_or es 2 none ∷ []
+pub three-are : (es : List Error) → length es ≡ 3 → es ≡ get_or es 0 none ∷ get_or es 1 none ∷ get_or es 2 none ∷ []
 three-are [] n = absurd (omega arith)
 three-are (a ∷ []) n = absurd (omega arith)
 three-are (a ∷ b ∷ []) n = absurd (omega arith)

@@ -95,9 +95,6 @@ pub record Sought (n low : ℕ) (is s : List ℕ) (tried : Option (List Error)) 
   pub none : (l : ℕ) → l < i → low ≤ l → NoneFrom n (l + 1) (is ++ (l ∷ [])) s
 
 module _ (n low : ℕ) (is s : List ℕ) where
-  pub sought-none : (e : Option (List Error)) (i : ℕ) → i ≡ low → i ≤ 254 → e ≡ None → Sought n low is s e i
-  sought-none e i p h q = record { from = omega arith; within = h; failed = q; none = λ l b a. absurd (omega arith) }
-
   module _ (e : Option (List Error)) (i : ℕ) (S : Sought n low is s e i) where
     pub sought-more : (d : Option (List Error)) → i < 254 → d ≡ None → NoneFrom n (i + 1) (is ++ (i ∷ [])) s → Sought n low is s d (i + 1)
     sought-more d h q none = record {

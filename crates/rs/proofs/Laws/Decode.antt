@@ -219,9 +219,6 @@ pub none-answer : (l : List ℕ) → decode l ≡ none → Answer l false l
 unfolding repairable repaired
 none-answer l e = record { said = sym (ap given e); left = sym (ap (λ o. get_or o l) e) }
 
-pub short-answer : (l : List ℕ) → (length l ≡ 254 → ⊥) → Answer l false l
-short-answer l n = none-answer l (decode-short l n)
-
 pub codeword-answer : (l : List ℕ) → Codeword l → Answer l true l
 codeword-answer l C = some-answer l l (decode-self l C)
 

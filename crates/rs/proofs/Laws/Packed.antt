@@ -128,10 +128,6 @@ divide-more l i s h k e =
     ∙ turn-next divisor_bytes p d (n ∙ (unfold divisor_bytes in refl)) (omega arith) (parity-bytes (take i l)) k
     ∙ ap pack (parity-step l i h)
 
--- what the table holds at the low byte of s
-pub look_up : (g t : List ℕ) (s j : ℕ) → Multiples 256 g t → j ≡ s % 256 → get_or t j 0 ≡ pack (scale (s % 256) g)
-look_up g t s j b e = ap (λ (n : ℕ). get_or t n 0) e ∙ b (s % 256) (mod-lt s (lit< tt))
-
 -- ---- the remainder of data with six bytes
 
 -- the parity of the first 248 and the last six add up to the remainder
@@ -204,9 +200,6 @@ pow-plain (suc k) h =
     ∙ sym (pow-suc 2 k)
 
 -- ---- filling the table
-
-pub extend-none : (size row : ℕ) (t : List ℕ) → Extended size 0 row t t
-extend-none size row t = record { long = refl; kept = λ i h. refl; made = λ i h. absurd (omega arith) }
 
 pub extend-more : (size row i x : ℕ) (t u : List ℕ) → size + i < length u → i < size → Extended size i row t u → x ≡ get_or u i 0 ⊕ row
     → Extended size (i + 1) row t (set u (size + i) x)

@@ -12,6 +12,7 @@ use lib.Dec.{lit<}
 use lib.ListN.{length, get_or, set, take, drop, length-append, length-replicate, length-set, drop_of_length-le}
 use lib.Seq.{take-suc, take_all, get_or-set_same, get_or-set_other}
 use Rattle.basics.proofs.Laws.Parts.{all-entries}
+use Rattle.basics.proofs.Laws.Test.{below_more}
 use Rattle.gf256.specs.Field.{◌⊕◌, ◌⊗◌, pow}
 use Rattle.gf256.proofs.Laws.Sum.{⊕-assoc, ⊕-comm, ⊕-self, ⊕-zero-l, ⊕-zero-r, ⊕-four, ⊕-lt}
 use Rattle.gf256.proofs.Laws.Product.{⊗-lt, ⊗-comm, ⊗-assoc, ⊗-⊕-l, ⊗-⊕-r, ⊗-zero-l, ⊗-zero-r, ⊗-one-r, pow-add}
@@ -209,25 +210,6 @@ horner-ring x d v = simp ring
 horner : (x d v t : ℕ) (l : List ℕ) → d < 256 → v ≡ value_at x l → t ≡ d ⊕ x ⊗ v → t ≡ value_at x (l ++ (d ∷ []))
 horner x d v t l h e f = f ∙ ap (λ (p : ℕ). d ⊕ x ⊗ p) e ∙ horner-ring x d (value_at x l) ∙ sym (value-snoc x l d h)
 
--- the value of six bytes, a step at a time
-pub value-six : (x : ℕ) (l : List ℕ) (p q r s t : ℕ) → length l ≡ 6 → Bytes l
-    → p ≡ get_or l 1 0 ⊕ x ⊗ get_or l 0 0 → q ≡ get_or l 2 0 ⊕ x ⊗ p → r ≡ get_or l 3 0 ⊕ x ⊗ q → s ≡ get_or l 4 0 ⊕ x ⊗ r → t ≡ get_or l 5 0 ⊕ x ⊗ s
-    → t ≡ value_at x l
-unfolding value_at pow
-value-six x [] p q r s t n h ep eq er es et = absurd (omega arith)
-value-six x (a ∷ []) p q r s t n h ep eq er es et = absurd (omega arith)
-value-six x (a ∷ b ∷ []) p q r s t n h ep eq er es et = absurd (omega arith)
-value-six x (a ∷ b ∷ c ∷ []) p q r s t n h ep eq er es et = absurd (omega arith)
-value-six x (a ∷ b ∷ c ∷ d ∷ []) p q r s t n h ep eq er es et = absurd (omega arith)
-value-six x (a ∷ b ∷ c ∷ d ∷ e ∷ []) p q r s t n h ep eq er es et = absurd (omega arith)
-value-six x (a ∷ b ∷ c ∷ d ∷ e ∷ f ∷ []) p q r s t n h ep eq er es et =
-    horner x f s t (a ∷ b ∷ c ∷ d ∷ e ∷ []) h.1.1.1.1.1.0
-    (horner x e r s (a ∷ b ∷ c ∷ d ∷ []) h.1.1.1.1.0
-    (horner x d q r (a ∷ b ∷ c ∷ []) h.1.1.1.0
-    (horner x c p q (a ∷ b ∷ []) h.1.1.0
-    (horner x b a p (a ∷ []) h.1.0 (sym (⊕-zero-r _ ∙ ⊗-one-r a h.0)) ep) eq) er) es) et
-value-six x (a ∷ b ∷ c ∷ d ∷ e ∷ f ∷ g ∷ l) p q r s t n h ep eq er es et = absurd (omega arith)
-
 -- ---- a polynomial scaled in place, coefficient by coefficient
 
 scaled_at : (f i : ℕ) (l : List ℕ) → i < length l
@@ -291,3 +273,16 @@ raised-all p s r m n k e R =
       R.rest 5 (omega arith),
       ap₂ raised_sum (all-entries 6 p m) (all-entries 6 s n),
     )
+
+-- ---- the six values at the powers 0 to 5 of 2, one more at a time
+
+pub record Summed (l s : List ℕ) (m : ℕ) : Type 0 where
+  pub long : length s ≡ 6
+  pub at : (j : ℕ) → j < m → get_or s j 0 ≡ value_at (pow 2 j) l
+
+pub summed-more : (l s : List ℕ) (m x v : ℕ) → Summed l s m → m < 6 → x ≡ pow 2 m → v ≡ value_at x l → Summed l (set s m v) (m + 1)
+summed-more l s m x v S h e f = record {
+  long = length-set s m v ∙ S.long;
+  at = below_more (λ j. get_or (set s m v) j 0 ≡ value_at (pow 2 j) l) m (λ j b. get_or-set_other s m j v 0 (λ p. omega arith) ∙ S.at j b)
+      (get_or-set_same s m v 0 (omega (arith, S.long)) ∙ f ∙ ap (λ (y : ℕ). value_at y l) e);
+}

@@ -1,10 +1,13 @@
--- `search::solver::sums` meets its contract.
+-- `search::solver::sums` meets its contract: a sum at a time.
 -- Assumes nothing.
-use Rattle.gf256.specs.Field.{◌⊕◌, ◌⊗◌, pow, by_bits, double}
-use Rattle.search.specs.Search.{sums_of}
-use Rattle.search.proofs.Laws.Moment.{six-equal}
+use Rattle.rs.proofs.Laws.Polynomial.{summed-more}
+use Rattle.search.proofs.Laws.Moment.{six-sums}
 use Rattle.search.proofs.solver.sums.Goals as goal
 
+pub loop-j-preserved : goal.loop-j-preserved
+loop-j-preserved c =
+    let l = c.loop-j in
+    summed-more c.args.bytes l.s l.j _ _ l.invariant c.loop-j-test.true c.power.ensures c.value.ensures
+
 pub returns : goal.returns
-unfolding sums_of pow ◌⊗◌ by_bits double ◌⊕◌
-returns c = six-equal c.value.ensures c.value-2.ensures c.value-3.ensures c.value-4.ensures c.value-5.ensures c.value-6.ensures
+returns c = let l = c.loop-j in six-sums c.args.bytes l.s l.j c.loop-j-test.false l.invariant
