@@ -34,8 +34,7 @@ pub fn ay_word_of(byte: u8) -> u16
 pub fn ay_check_word(word: u16) -> AyWord
     ensures { result ≡ word_from (soundness_of word) }
 {
-    let soundness = soundness::check_word(word);
-    answers::word(soundness)
+    AyWord::from(soundness::check_word(word))
 }
 
 // The checksum word of a run of words.
@@ -48,69 +47,63 @@ pub fn ay_checksum(words: &[u16]) -> u16
 // ---- packet and record
 
 // Writes the packet of the bytes' record. A refusal leaves `out` as it was.
+#[tactic(auto, unfolding(writing::specs::Written::written_of))]
 pub fn ay_write_packet(correction: bool, ci: u8, bytes: &[u8], out: &mut [u16]) -> AyAnswer
     ensures { (result ≡ answer_by (write_refusal ci bytes.now (length out.old))) × (out.new ≡ write_leaves correction ci bytes.now out.old) }
 {
-    let written = writing::write_packet(correction, ci, bytes, out);
-    answers::written(written)
+    AyAnswer::from(writing::write_packet(correction, ci, bytes, out))
 }
 
 // Reads a packet.
 pub fn ay_read_packet(words: &[u16]) -> AyPacket
     ensures { result ≡ packet_from (reading_of words.now) }
 {
-    let reading = reading::read_packet(words);
-    answers::packet(reading)
+    AyPacket::from(reading::read_packet(words))
 }
 
 // Reads a packet, and leaves its record in `out`. A refusal leaves `out` as it was.
 pub fn ay_read_packet_into(words: &[u16], out: &mut [u8]) -> AyPacket
     ensures { (result ≡ packet_from (reading_into_of words.now (length out.old))) × (out.new ≡ read_leaves words.now out.old) }
 {
-    let reading = reading::read_packet_into(words, out);
-    answers::packet(reading)
+    AyPacket::from(reading::read_packet_into(words, out))
 }
 
 // Rewrites the 254 protected words. A refusal leaves `out` as it was.
 pub fn ay_repair(words: &[u16], out: &mut [u16]) -> AyRepaired
     ensures { (result ≡ repaired_from (repaired_of words.now (length out.old))) × (out.new ≡ repair_leaves words.now out.old) }
 {
-    let repaired = repair::repair(words, out);
-    answers::repaired(repaired)
+    AyRepaired::from(repair::repair(words, out))
 }
 
 // Is a block of 254 bytes a codeword?
 pub fn ay_check_codeword(block: &[u8]) -> AyVerdict
     ensures { result ≡ verdict_from (verdict_of block.now) }
 {
-    let verdict = rs::check_codeword(block);
-    answers::verdict(verdict)
+    AyVerdict::from(rs::check_codeword(block))
 }
 
 // What the bytes of a record are refused for.
 pub fn ay_record_refusal(bytes: &[u8]) -> AyAnswer
     ensures { result ≡ answer_by (record_refusal bytes.now) }
 {
-    let checked = record::record_refusal(bytes);
-    answers::checked(checked)
+    AyAnswer::from(record::record_refusal(bytes))
 }
 
 // ---- field
 
 // Packs a packet's words into a field. A refusal leaves `out` as it was.
+#[tactic(auto, unfolding(b40::specs::Packing::packed_of))]
 pub fn ay_pack(yc: bool, line: u16, offset: u16, words: &[u16], out: &mut [u8]) -> AyAnswer
     ensures { (result ≡ answer_by (pack_refusal line offset words.now (length out.old))) × (out.new ≡ pack_leaves yc line offset words.now out.old) }
 {
-    let written = b40::pack(yc, line, offset, words, out);
-    answers::written(written)
+    AyAnswer::from(b40::pack(yc, line, offset, words, out))
 }
 
 // Unpacks a field into the words of its packet. A refusal leaves `out` as it was.
 pub fn ay_unpack(field: &[u8], out: &mut [u16]) -> AyField
     ensures { (result ≡ field_from (unpacked_of field.now (length out.old))) × (out.new ≡ unpack_leaves field.now out.old) }
 {
-    let unpacked = b40::unpack(field, out);
-    answers::field(unpacked)
+    AyField::from(b40::unpack(field, out))
 }
 
 // ---- desk
@@ -119,32 +112,28 @@ pub fn ay_unpack(field: &[u8], out: &mut [u16]) -> AyField
 pub fn ay_desk_open(correction: bool) -> AyTurn
     ensures { result ≡ turn_from (opened correction) }
 {
-    let turn = Desk::open(correction);
-    answers::turn(turn)
+    AyTurn::from(Desk::open(correction))
 }
 
 // Checks the bytes given for an item and stores them, one step more.
 pub fn ay_desk_edit(desk: Desk, item: u8, bytes: &[u8]) -> AyTurn
     ensures { result ≡ turn_from (edited desk item bytes.now) }
 {
-    let turn = desk.edit(item, bytes);
-    answers::turn(turn)
+    AyTurn::from(desk.edit(item, bytes))
 }
 
 // Puts back the bytes before the latest step.
 pub fn ay_desk_undo(desk: Desk) -> AyTurn
     ensures { result ≡ turn_from (undone desk) }
 {
-    let turn = desk.undo();
-    answers::turn(turn)
+    AyTurn::from(desk.undo())
 }
 
 // Writes the packet of the desk's bytes as they stand, and counts the index on. A refusal leaves `out` as it was.
 pub fn ay_desk_send(desk: Desk, out: &mut [u16]) -> AyTurn
     ensures { (result ≡ turn_from (sent desk (length out.old))) × (out.new ≡ send_leaves desk out.old) }
 {
-    let turn = desk.send(out);
-    answers::turn(turn)
+    AyTurn::from(desk.send(out))
 }
 
 // ---- follower
@@ -160,14 +149,12 @@ pub fn ay_follower_open() -> Follower
 pub fn ay_follower_follow(follower: Follower, words: &[u16]) -> AyFollowed
     ensures { result ≡ followed_from (followed follower words.now) }
 {
-    let heard = follower.follow(words);
-    answers::followed(heard)
+    AyFollowed::from(follower.follow(words))
 }
 
 // Leaves in `out` the record that the follower shows. A refusal leaves `out` as it was.
 pub fn ay_follower_shown(follower: Follower, out: &mut [u8]) -> AyAnswer
     ensures { (result ≡ answer_by (shown_refusal (length out.old))) × (out.new ≡ shown_leaves follower out.old) }
 {
-    let checked = follower.shown_into(out);
-    answers::checked(checked)
+    AyAnswer::from(follower.shown_into(out))
 }
