@@ -1,8 +1,10 @@
 -- The line from a desk to a follower: what may happen on it, and what is true of it.
 -- Assumes nothing.
-use Rattle.std.specs.Prelude.{◌≡◌, Bool, true, false, cond, List, [], ◌++◌, ℕ, ◌+◌, ◌≤◌, length, take, drop}
+use Rattle.std.specs.Prelude.{◌≡◌, Bool, true, false, cond, List, [], ◌++◌, ℕ, ◌+◌, ◌≤◌, length, take, drop, Result}
 use Rattle.std.proofs.Math.Option.{none}
 use Rattle.anc.specs.Words.{narrow}
+use Rattle.refusal.specs.declared.Refusal.{Refusal}
+use Rattle.refusal.specs.Checked.{refusal_in}
 use Rattle.repair.specs.Reach.{damage}
 use Rattle.reading.specs.Reading.{protected_of}
 use Rattle.desk.specs.declared.Desk.{Desk}
@@ -10,8 +12,8 @@ use Rattle.desk.specs.declared.Turn.{Turn}
 use Rattle.desk.specs.Model.{Model, fresh, send_m}
 use Rattle.follower.specs.declared.Follower.{Follower}
 use Rattle.follower.specs.declared.Followed.{Followed}
-use Rattle.follower.specs.declared.Heard.{Heard}
-use Rattle.follower.specs.Follower.{counted, refusal_in, shown_by}
+use Rattle.follower.specs.declared.Arrival.{Arrival}
+use Rattle.follower.specs.Follower.{counted, shown_by}
 use Rattle.promises.specs.Calls.{Opens, Sends, Begins, Follows}
 use Rattle.promises.specs.History.{Turns}
 
@@ -23,6 +25,10 @@ pub record Delivers (sent arrived : List ℕ) : Type 0 where
   pub ten_bits : narrow protected ≡ true
   pub few : damage protected (protected_of sent) ≤ 6
   pub rest : arrived ≡ take 7 sent ++ protected ++ drop 261 sent
+
+-- what a follower hears of a packet
+abbrev pub Heard : Type 0
+Heard = Result Arrival Refusal
 
 -- how a packet has fared: there is none; it is on the line; it was dropped; it was delivered, and of the latest delivery, its own or one of the packet
 -- sent right before it: the record sent in that packet, and what was heard

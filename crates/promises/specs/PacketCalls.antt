@@ -1,33 +1,31 @@
 -- The calls of word, codeword, record and packet, through their contracts: which answers, and what left in a lent buffer, a contract allows.
 -- Assumes nothing.
-use Rattle.std.specs.Prelude.{◌≡◌, Bool, List, ℕ}
+use Rattle.std.specs.Prelude.{◌≡◌, Bool, List, ℕ, Result}
 use borrow.Fn.Kinds.{Dens, ended_of}
 use contract.Lifetimes.{Lfts}
 use denote.Triple.Clauses.{AtExit}
 use Rattle.basics.specs.Below.{Bytes}
-use Rattle.refusal.specs.declared.Checked.{Checked}
-use Rattle.soundness.specs.declared.Soundness.{Soundness}
+use Rattle.refusal.specs.Checked.{Checked}
+use Rattle.refusal.specs.declared.Refusal.{Refusal}
+use Rattle.soundness.specs.Check.{Soundness}
 use Rattle.soundness.proofs.check_word.Kinds as check-word-types
 use Rattle.soundness.proofs.check_word.Reads as check-word-contract
 use Rattle.soundness.proofs.check_words.Kinds as check-words-types
 use Rattle.soundness.proofs.check_words.Reads as check-words-contract
-use Rattle.rs.specs.declared.Verdict.{Verdict}
 use Rattle.rs.proofs.check_codeword.Kinds as check-codeword-types
 use Rattle.rs.proofs.check_codeword.Reads as check-codeword-contract
 use Rattle.record.proofs.record_refusal.Kinds as record-refusal-types
 use Rattle.record.proofs.record_refusal.Reads as record-refusal-contract
-use Rattle.view.specs.declared.RecordRead.{RecordRead}
+use Rattle.view.specs.declared.RecordView.{RecordView}
 use Rattle.view.proofs.read_record.Kinds as read-record-types
 use Rattle.view.proofs.read_record.Reads as read-record-contract
-use Rattle.writing.specs.declared.Written.{Written}
 use Rattle.writing.proofs.write_packet.Kinds as write-types
 use Rattle.writing.proofs.write_packet.Reads as write-contract
-use Rattle.reading.specs.declared.Reading.{Reading}
+use Rattle.reading.specs.declared.Packet.{Packet}
 use Rattle.reading.proofs.read_packet.Kinds as read-types
 use Rattle.reading.proofs.read_packet.Reads as read-contract
 use Rattle.reading.proofs.read_packet_into.Kinds as read-into-types
 use Rattle.reading.proofs.read_packet_into.Reads as read-into-contract
-use Rattle.repair.specs.declared.Repaired.{Repaired}
 use Rattle.repair.proofs.repair.Kinds as repair-types
 use Rattle.repair.proofs.repair.Reads as repair-contract
 
@@ -50,7 +48,7 @@ pub record ChecksWords (words : List ℕ) (answer : Checked) : Type 0 where
   pub allowed : check-words-contract.Learnt κs input answer exit
 
 -- it is checked whether the block is a codeword
-pub record ChecksCodeword (block : List ℕ) (answer : Verdict) : Type 0 where
+pub record ChecksCodeword (block : List ℕ) (answer : Result Bool Refusal) : Type 0 where
   pub κs : Lfts 1
   pub input : Dens κs check-codeword-types.ps
   pub exit : AtExit (ended_of 1 check-codeword-types.ps check-codeword-types.r) κs
@@ -66,7 +64,7 @@ pub record ChecksRecord (bytes : List ℕ) (answer : Checked) : Type 0 where
   pub allowed : record-refusal-contract.Learnt κs input answer exit
 
 -- they are read as a record
-pub record ReadsRecord (bytes : List ℕ) (answer : RecordRead) : Type 0 where
+pub record ReadsRecord (bytes : List ℕ) (answer : Result RecordView Refusal) : Type 0 where
   pub κs : Lfts 1
   pub input : Dens κs read-record-types.ps
   pub exit : AtExit (ended_of 1 read-record-types.ps read-record-types.r) κs
@@ -74,7 +72,7 @@ pub record ReadsRecord (bytes : List ℕ) (answer : RecordRead) : Type 0 where
   pub allowed : read-record-contract.Learnt κs input answer exit
 
 -- bytes are written as a packet, with correction on or off and an index, into a buffer that holds `old`, in which `left` is then left
-pub record Writes (on : Bool) (ci : ℕ) (bytes old : List ℕ) (answer : Written) (left : List ℕ) : Type 0 where
+pub record Writes (on : Bool) (ci : ℕ) (bytes old : List ℕ) (answer : Checked) (left : List ℕ) : Type 0 where
   pub κs : Lfts 2
   pub input : Dens κs write-types.ps
   pub exit : AtExit (ended_of 2 write-types.ps write-types.r) κs
@@ -87,7 +85,7 @@ pub record Writes (on : Bool) (ci : ℕ) (bytes old : List ℕ) (answer : Writte
   pub allowed : write-contract.Learnt κs input answer exit
 
 -- the words are read as a packet
-pub record ReadsPacket (words : List ℕ) (answer : Reading) : Type 0 where
+pub record ReadsPacket (words : List ℕ) (answer : Result Packet Refusal) : Type 0 where
   pub κs : Lfts 1
   pub input : Dens κs read-types.ps
   pub exit : AtExit (ended_of 1 read-types.ps read-types.r) κs
@@ -95,7 +93,7 @@ pub record ReadsPacket (words : List ℕ) (answer : Reading) : Type 0 where
   pub allowed : read-contract.Learnt κs input answer exit
 
 -- the words are read as a packet, and its record into a buffer that holds `old`, in which `left` is then left
-pub record ReadsInto (words old : List ℕ) (answer : Reading) (left : List ℕ) : Type 0 where
+pub record ReadsInto (words old : List ℕ) (answer : Result Packet Refusal) (left : List ℕ) : Type 0 where
   pub κs : Lfts 2
   pub input : Dens κs read-into-types.ps
   pub exit : AtExit (ended_of 2 read-into-types.ps read-into-types.r) κs
@@ -105,7 +103,7 @@ pub record ReadsInto (words old : List ℕ) (answer : Reading) (left : List ℕ)
   pub allowed : read-into-contract.Learnt κs input answer exit
 
 -- protected words are repaired into a buffer that holds `old`, in which `left` is then left
-pub record Repairs (words old : List ℕ) (answer : Repaired) (left : List ℕ) : Type 0 where
+pub record Repairs (words old : List ℕ) (answer : Result ℕ Refusal) (left : List ℕ) : Type 0 where
   pub κs : Lfts 2
   pub input : Dens κs repair-types.ps
   pub exit : AtExit (ended_of 2 repair-types.ps repair-types.r) κs

@@ -1,7 +1,6 @@
 -- What is promised of the private area as item 13: what an edit of it answers and leaves, and its line on the printed page.
 -- Assumes nothing.
-use Rattle.std.specs.Prelude.{◌≡◌, List, ◌++◌, ℕ, length, take}
-use Rattle.refusal.specs.declared.Checked.TheVariants.{Passed}
+use Rattle.std.specs.Prelude.{◌≡◌, Ok, List, ◌++◌, ℕ, length, take}
 use Rattle.record.specs.Record.{private_part}
 use Rattle.steps.specs.declared.Step.{Step}
 use Rattle.desk.specs.declared.Desk.{Desk}
@@ -16,7 +15,7 @@ private_step old = record { item = 13; old = old }
 -- the edit is done: the private area is the bytes that were given, what stands before it is what it was, and the latest step holds the private area
 -- as it was, 141 bytes
 pub record PrivateStored (d : Desk) (bytes : List ℕ) (t : Turn) : Type 0 where
-  pub done : t.checked ≡ Passed
+  pub done : t.checked ≡ Ok tt
   pub stored : private_part t.desk.bytes ≡ bytes
   pub before : take 107 t.desk.bytes ≡ take 107 d.bytes
   pub step : latest t.desk ≡ private_step (private_part d.bytes)

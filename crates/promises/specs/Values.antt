@@ -1,17 +1,15 @@
 -- Values on both sides of a line, as one table: what the definitions give at the cases that are marked to be proved.
 -- Assumes nothing.
-use Rattle.std.specs.Prelude.{◌≡◌, Bool, true, false, cond, List, [], ◌∷◌, ◌++◌, ℕ, ◌+◌, ◌-◌, ◌^◌, eqb, get_or, replicate}
+use Rattle.std.specs.Prelude.{◌≡◌, Bool, true, false, cond, List, [], ◌∷◌, ◌++◌, ℕ, ◌+◌, ◌-◌, ◌^◌, eqb, get_or, replicate, Ok, Err, Some}
 use Rattle.refusal.specs.Number.{refusal_at}
 use Rattle.refusal.specs.declared.Wrong.TheVariants.{B8, B9, Both}
 use Rattle.refusal.specs.declared.Reason.TheVariants.{Station}
 use Rattle.anc.specs.Word.{bit, word_of, is_sound}
-use Rattle.soundness.specs.declared.Soundness.TheVariants.{Unsound}
 use Rattle.soundness.specs.Check.{soundness_of}
 use Rattle.rs.specs.Codeword.{parity_of}
 use Rattle.rules.specs.Rules.{sound_byte, picture_rule, time_rule}
 use Rattle.anc.specs.Words.{sound_words}
 use Rattle.writing.specs.Layout.{packet_words}
-use Rattle.reading.specs.declared.Reading.TheVariants.{Accepted, Refused}
 use Rattle.reading.specs.Reading.{read_record}
 use Rattle.reading.specs.Answer.{reading_of}
 use Rattle.desk.specs.Desk.{opening}
@@ -55,9 +53,9 @@ pub record Values : Type 0 where
   pub zero_on : sum_word (packet_words true 0 (replicate 248 0)) ≡ 0x2DC
   -- with correction off, which no desk sends, two cases of the layout and, behind each, of reading: for a reader zero data lack a station code
   pub zero_off : sum_word (packet_words false 0 (replicate 248 0)) ≡ 0x15C
-  pub zero_off_read : reading_of (packet_words false 0 (replicate 248 0)) ≡ Refused (refusal_at Station 1)
+  pub zero_off_read : reading_of (packet_words false 0 (replicate 248 0)) ≡ Err (refusal_at Station 1)
   pub fresh_off : sum_word (packet_words false 0 opening) ≡ 0x149
-  pub fresh_off_read : reading_of (packet_words false 0 opening) ≡ Accepted (record { correction = false; ci = 0; fixed = 0 })
+  pub fresh_off_read : reading_of (packet_words false 0 opening) ≡ Ok (record { correction = false; ci = 0; fixed = 0 })
   pub fresh_off_record : read_record (packet_words false 0 opening) ≡ opening
   pub sound_92 : sound_byte 0x92 ≡ true
   pub sound_89 : sound_byte 0x89 ≡ false
@@ -77,6 +75,6 @@ pub record Values : Type 0 where
   pub index_3_then_2_lost : (h : Held) (arrived : List ℕ) → h.ci ≡ 3 → h.successive ≡ false → (arrival_at h 2 arrived).missed ≡ 14
   pub index_3_then_2_again : (h : Held) → h.ci ≡ 3 → h.successive ≡ true
       → arrival_at h 2 h.before ≡ record { kind = Repeat; ci = 2; fixed = 0; missed = 0; onsets = 0 }
-  pub b8_inverted : (w : ℕ) → is_sound w ≡ true → soundness_of (inverted 8 w) ≡ Unsound B8
-  pub b9_inverted : (w : ℕ) → is_sound w ≡ true → soundness_of (inverted 9 w) ≡ Unsound B9
-  pub both_inverted : (w : ℕ) → is_sound w ≡ true → soundness_of (inverted 8 (inverted 9 w)) ≡ Unsound Both
+  pub b8_inverted : (w : ℕ) → is_sound w ≡ true → soundness_of (inverted 8 w) ≡ Ok (Some B8)
+  pub b9_inverted : (w : ℕ) → is_sound w ≡ true → soundness_of (inverted 9 w) ≡ Ok (Some B9)
+  pub both_inverted : (w : ℕ) → is_sound w ≡ true → soundness_of (inverted 8 (inverted 9 w)) ≡ Ok (Some Both)

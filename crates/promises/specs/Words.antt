@@ -1,6 +1,6 @@
 -- What is promised of a word: the four answers of the word check, and what refusal 7 says.
 -- Assumes nothing.
-use Rattle.std.specs.Prelude.{◌≡◌, false, List, ◌↔◌, ℕ, ◌-◌}
+use Rattle.std.specs.Prelude.{◌≡◌, false, List, ◌↔◌, ℕ, ◌-◌, Ok, Some, None}
 use Rattle.std.proofs.Math.Option.{Option, some}
 use Rattle.basics.specs.Each.{all}
 use Rattle.refusal.specs.Number.{refusal_at}
@@ -9,9 +9,7 @@ use Rattle.refusal.specs.declared.Wrong.TheVariants.{B8, B9, Both}
 use Rattle.refusal.specs.declared.Reason.TheVariants.{Parity}
 use Rattle.refusal.specs.declared.Refusal.{Refusal}
 use Rattle.anc.specs.Word.{bit, parity_of, is_sound}
-use Rattle.soundness.specs.declared.Soundness.{Soundness}
-use Rattle.soundness.specs.declared.Soundness.TheVariants.{Sound, Unsound}
-use Rattle.soundness.specs.Check.{FirstUnsound}
+use Rattle.soundness.specs.Check.{Soundness, FirstUnsound}
 use Rattle.reading.specs.Reading.{protected_of, data_words, OffPacket}
 
 -- ---- one word
@@ -25,10 +23,10 @@ RightB9 w = bit 9 w ≡ 1 - parity_of w
 
 -- the answer for a word of ten bits, by cases
 pub record FourAnswers (w : ℕ) (answer : Soundness) : Type 0 where
-  pub sound : (answer ≡ Sound) ↔ (RightB8 w × RightB9 w)
-  pub b8 : (answer ≡ Unsound B8) ↔ ((RightB8 w → ⊥) × RightB9 w)
-  pub b9 : (answer ≡ Unsound B9) ↔ (RightB8 w × (RightB9 w → ⊥))
-  pub both : (answer ≡ Unsound Both) ↔ ((RightB8 w → ⊥) × (RightB9 w → ⊥))
+  pub sound : (answer ≡ Ok None) ↔ (RightB8 w × RightB9 w)
+  pub b8 : (answer ≡ Ok (Some B8)) ↔ ((RightB8 w → ⊥) × RightB9 w)
+  pub b9 : (answer ≡ Ok (Some B9)) ↔ (RightB8 w × (RightB9 w → ⊥))
+  pub both : (answer ≡ Ok (Some Both)) ↔ ((RightB8 w → ⊥) × (RightB9 w → ⊥))
 
 -- ---- refusal 7
 

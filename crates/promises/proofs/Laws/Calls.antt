@@ -5,8 +5,7 @@ use mathlib.Core.Bool.{Bool}
 use mathlib.Core.List.{List}
 use Prim.Native.Nat.{ℕ}
 use lib.ListN.{length}
-use Rattle.refusal.specs.declared.Checked.{Checked}
-use Rattle.refusal.specs.Checked.{checked_of}
+use Rattle.refusal.specs.Checked.{Checked, checked_of}
 use Rattle.desk.specs.declared.Desk.{Desk}
 use Rattle.desk.specs.declared.Turn.{Turn}
 use Rattle.desk.specs.Desk.{opened, edited, undone, sent, send_leaves}

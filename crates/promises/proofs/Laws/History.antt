@@ -9,7 +9,7 @@ use Prim.Native.Nat.{ℕ, ◌-◌, ◌%◌}
 use borrow.Author.Tests.{eqb-true, eqb-false, eq-eqb}
 use lib.Dec.{eqb}
 use lib.ListN.{length, get_or}
-use Rattle.refusal.specs.declared.Checked.TheVariants.{Passed}
+use Rattle.std.specs.Prelude.{Ok}
 use Rattle.items.specs.Item.{item_refusal, clean_of, item_part, put_item}
 use Rattle.basics.specs.Below.{Bytes}
 use Rattle.refusal.proofs.Laws.Chain.{told}
@@ -51,7 +51,7 @@ shown d m h = (stands d m h).bytes
 
 -- into room for 262 words: exactly the words of the record that the history gives, with the number of packets sent before as their index
 pub sent_is : (d : Desk) (m : Model) → History d m → (old : List ℕ) (t : Turn) (left : List ℕ) → Sends d old t left → length old ≡ 262
-    → (t.checked ≡ Passed) × (left ≡ packet_words true (m.sends % 16) m.present)
+    → (t.checked ≡ Ok tt) × (left ≡ packet_words true (m.sends % 16) m.present)
 sent_is d m h old t left S n =
     ((sent-as-they-stand d old t left S).done n, sends-leaves d old t left S ∙ sent-words d m (stands d m h) old n)
 
@@ -70,7 +70,7 @@ pub history-long : (d : Desk) (m : Model) → History d m → length d.bytes ≡
 history-long d m h = let s = stands d m h in ap length s.bytes ∙ s.clean.present.long
 
 module _ (d : Desk) (item : ℕ) (bytes : List ℕ) (t : Turn) (E : Edits d item bytes t) (a : item_refusal item bytes ≡ none) where
-  pub edit-done : t.checked ≡ Passed
+  pub edit-done : t.checked ≡ Ok tt
   unfolding edited
   edit-done = ap (λ (x : Turn). x.checked) (edits-is d item bytes t E) ∙ rw a
 
@@ -102,11 +102,11 @@ module _ (d : Desk) (m : Model) (h : History d m) (item : ℕ) (bytes : List ℕ
 
 -- ---- what undo gives back
 
-module _ (d : Desk) (m : Model) (h : History d m) (item : ℕ) (bytes : List ℕ) (t u : Turn) (E : Edits d item bytes t) (done : t.checked ≡ Passed)
+module _ (d : Desk) (m : Model) (h : History d m) (item : ℕ) (bytes : List ℕ) (t u : Turn) (E : Edits d item bytes t) (done : t.checked ≡ Ok tt)
     (U : Undoes t.desk u) where
   passed-edit : item_refusal item bytes ≡ none
   unfolding edited
-  passed-edit = told (item_refusal item bytes) t.checked Passed (ap (λ (x : Turn). x.checked) (edits-is d item bytes t E)) done
+  passed-edit = told (item_refusal item bytes) t.checked (Ok tt) (ap (λ (x : Turn). x.checked) (edits-is d item bytes t E)) done
 
   -- the very record before the latest edit
   pub undo-gives-back : u.desk.bytes ≡ d.bytes

@@ -11,7 +11,8 @@ use lib.ListN.{length}
 use Rattle.basics.proofs.Laws.Test.{never}
 use Rattle.refusal.specs.Number.{refusal_plain}
 use Rattle.refusal.specs.declared.Reason.TheVariants.{Room}
-use Rattle.refusal.specs.declared.Checked.TheVariants.{Refused}
+use Rattle.std.specs.Prelude.{Err}
+use Rattle.refusal.specs.Checked.{refusal_in}
 use Rattle.basics.specs.Below.{Bytes}
 use Rattle.basics.specs.Each.{all}
 use Rattle.record.proofs.Laws.Stored.{CleanRecord}
@@ -29,13 +30,12 @@ use Rattle.sequence.specs.Sequence.{repeats_in}
 use Rattle.follower.specs.declared.Held.{Held}
 use Rattle.follower.specs.declared.Follower.{Follower}
 use Rattle.follower.specs.declared.Followed.{Followed}
-use Rattle.follower.specs.declared.Heard.{Heard}
-use Rattle.follower.specs.Follower.{counted, refusal_in, followed, opened, shown_by}
+use Rattle.follower.specs.Follower.{counted, followed, opened, shown_by}
 use Rattle.follower.proofs.Laws.Count.{counted_none, counted-again}
 use Rattle.follower.proofs.Laws.Follow.{accepted-holds, Arrived, first_kind, repeat-kind, before-kind, next-kind}
 use Rattle.promises.specs.Calls.{Opens, Sends, Begins, Follows}
 use Rattle.promises.specs.History.{Turns, edits, undoes, History, opens, turns, sends}
-use Rattle.promises.specs.Line.{Delivers, Fate, unsent, waiting, dropped, delivered, Scene, opening, turned, sent, lost, heard, Line, opens, turns, sends, no_room, drops, delivers, repeats, repeats-earlier, Agrees}
+use Rattle.promises.specs.Line.{Delivers, Heard, Fate, unsent, waiting, dropped, delivered, Scene, opening, turned, sent, lost, heard, Line, opens, turns, sends, no_room, drops, delivers, repeats, repeats-earlier, Agrees}
 use Rattle.promises.proofs.Laws.Arrival.{Arrives, sent-long, sent-narrow, sent-sound, arrives}
 use Rattle.promises.proofs.Laws.Calls.{begins-is, follows_is}
 use Rattle.promises.proofs.Laws.Sent.{sent-as-they-stand}
@@ -452,7 +452,7 @@ known s (repeats-earlier {s = s₀} {bytes = bytes} {bytes' = bytes'} {h = h} {h
 
 -- a send into a buffer of another length is refused, on every line
 pub no-room-refused : (s : Scene) → Line s → (old : List ℕ) (t : Turn) (left : List ℕ) → Sends s.desk old t left → (length old ≡ 262 → ⊥)
-    → t.checked ≡ Refused (refusal_plain Room)
+    → t.checked ≡ Err (refusal_plain Room)
 no-room-refused s l old t left S n = (sent-as-they-stand s.desk old t left S).no_room n
 
 -- the packet that waits on a line, and one that may be repeated, has 254 protected words of ten bits each, and sound

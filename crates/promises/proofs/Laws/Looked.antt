@@ -10,11 +10,11 @@ use lib.ListN.{length}
 use Rattle.reading.specs.Reading.{read_record}
 use Rattle.follower.specs.declared.Follower.{Follower}
 use Rattle.follower.specs.declared.Followed.{Followed}
-use Rattle.follower.specs.declared.Heard.{Heard}
-use Rattle.follower.specs.Follower.{refusal_in, shown_by, shown_refusal, shown_leaves}
+use Rattle.refusal.specs.Checked.{refusal_in}
+use Rattle.follower.specs.Follower.{shown_by, shown_refusal, shown_leaves}
 use Rattle.follower.proofs.Laws.Follow.{accepted-holds}
 use Rattle.promises.specs.Calls.{Follows}
-use Rattle.promises.specs.Line.{Scene, Line, delivered}
+use Rattle.promises.specs.Line.{Heard, Scene, Line, delivered}
 use Rattle.promises.specs.Shown.{Shown}
 use Rattle.promises.proofs.Laws.Calls.{follows_is, looks-is, looks-into-is, looks-into-leaves}
 use Rattle.promises.proofs.Laws.Packets.{follow-tells}

@@ -5,20 +5,18 @@ use mathlib.Core.Path.{sym, ◌∙◌}
 use Rattle.promises.specs.Only.{OneAnswer, OnePart, SameOutcome, OneOutcome}
 use Rattle.gf256.proofs.Laws.Tables.{powers-unique, logs-unique}
 use Rattle.gf256.proofs.Laws.Lent.{wheel-unique}
-use Rattle.refusal.proofs.number.Kinds as number-types
-use Rattle.refusal.proofs.number.Reads as number-contract
-use Rattle.refusal.proofs.bits.Kinds as bits-types
-use Rattle.refusal.proofs.bits.Reads as bits-contract
+use Rattle.refusal.proofs.U8FromReason.from.Kinds as number-types
+use Rattle.refusal.proofs.U8FromReason.from.Reads as number-contract
+use Rattle.refusal.proofs.U8FromWrong.from.Kinds as bits-types
+use Rattle.refusal.proofs.U8FromWrong.from.Reads as bits-contract
 use Rattle.refusal.proofs.bits_in.Kinds as bits-in-types
 use Rattle.refusal.proofs.bits_in.Reads as bits-in-contract
 use Rattle.refusal.proofs.plain.Kinds as plain-types
 use Rattle.refusal.proofs.plain.Reads as plain-contract
 use Rattle.refusal.proofs.at.Kinds as at-types
 use Rattle.refusal.proofs.at.Reads as at-contract
-use Rattle.refusal.proofs.then.Kinds as then-types
-use Rattle.refusal.proofs.then.Reads as then-contract
-use Rattle.refusal.proofs.next.Kinds as next-types
-use Rattle.refusal.proofs.next.Reads as next-contract
+use Rattle.refusal.proofs.require.Kinds as require-types
+use Rattle.refusal.proofs.require.Reads as require-contract
 use Rattle.anc.proofs.word_of.Kinds as word-of-types
 use Rattle.anc.proofs.word_of.Reads as word-of-contract
 use Rattle.soundness.proofs.check_word.Kinds as check-word-types
@@ -227,11 +225,8 @@ plain κs i a b s t p q = p ∙ sym q
 pub at : OneAnswer 0 at-types.ps at-types.r at-contract.Learnt
 at κs i a b s t p q = p ∙ sym q
 
-pub then : OneAnswer 0 then-types.ps then-types.r then-contract.Learnt
-then κs i a b s t p q = p ∙ sym q
-
-pub next : OneAnswer 0 next-types.ps next-types.r next-contract.Learnt
-next κs i a b s t p q = p ∙ sym q
+pub require : OneAnswer 0 require-types.ps require-types.r require-contract.Learnt
+require κs i a b s t p q = p ∙ sym q
 
 -- ---- anc
 
@@ -341,7 +336,7 @@ sound-byte κs i a b s t p q = p ∙ sym q
 -- ---- items
 
 pub item-place : OneAnswer 0 item-place-types.ps item-place-types.r item-place-contract.Learnt
-item-place κs i a b s t p q = p ∙ sym q
+item-place κs i a b s t p q = p.0 ∙ sym q.0
 
 pub item-refusal : OneAnswer 1 item-refusal-types.ps item-refusal-types.r item-refusal-contract.Learnt
 item-refusal κs i a b s t p q = p ∙ sym q

@@ -13,6 +13,7 @@ use lib.Dec.{leb, eqb}
 use lib.ListN.{length, take, drop}
 use Rattle.basics.proofs.Laws.Parts.{take-most}
 use Rattle.refusal.specs.Chain.{require, passed, next}
+use Rattle.std.specs.Prelude.{Ok, Err, Some, None}
 use Rattle.refusal.specs.Checked.{refusal_in}
 use Rattle.refusal.specs.Run.{first_from}
 use Rattle.refusal.specs.Number.{number_of, refusal_at, refusal_plain}
@@ -21,15 +22,13 @@ use Rattle.refusal.specs.declared.Reason.TheVariants.{Wide, Parity, ReservedArea
 use Rattle.refusal.specs.declared.Refusal.{Refusal}
 use Rattle.refusal.proofs.Laws.Chain.{passed-other}
 use Rattle.anc.specs.Words.{fill_refusal}
-use Rattle.soundness.specs.declared.Soundness.{Soundness}
-use Rattle.soundness.specs.declared.Soundness.TheVariants.{Sound, Unsound, Refused}
-use Rattle.soundness.specs.Check.{soundness_of, refusal_in as refusal_in_word, word_refusal, unsound_from, words_refusal}
+use Rattle.soundness.specs.Check.{Soundness, soundness_of, word_refusal, unsound_from, words_refusal}
 use Rattle.soundness.proofs.Laws.Check.{refused-wide}
 use Rattle.rs.specs.Codeword.{block_refusal}
 use Rattle.rs.specs.Decode.{decode_refusal}
 use Rattle.search.specs.Marked.{marked_refusal}
 use Rattle.items.specs.Items.{Row, items, part}
-use Rattle.items.specs.Item.{row_of, refused_in, item_refusal, place_in, place_of}
+use Rattle.items.specs.Item.{row_of, refused_in, item_refusal, place_refused_in, place_refusal}
 use Rattle.record.specs.Reserved.{reserved_area, used_at, reserved_refusal}
 use Rattle.record.specs.Record.{broken, content_refusal, record_refusal}
 use Rattle.record.specs.Written.{written_refusal}
@@ -198,8 +197,8 @@ content-right bytes =
 module _ (last : ℕ) where
   word-right : (n w : ℕ) (a : Soundness) → soundness_of w ≡ a → 1 ≤ n → n ≤ last → RightIn last (word_refusal n a)
   unfolding number_of
-  word-right n w Sound e h k = passed-right
-  word-right n w (Unsound wrong) e h k =
+  word-right n w (Ok None) e h k = passed-right
+  word-right n w (Ok (Some wrong)) e h k =
       refused-right (refusal_at (Parity wrong) n)
       (record {
         of_item = λ t. absurd (false≢true t);
@@ -207,19 +206,18 @@ module _ (last : ℕ) where
         of_area = λ t. absurd (false≢true t);
         else_zero = λ f. absurd (false≢true (sym f));
       })
-  word-right n w (Refused why) e h k = rw (refused-wide w why e) (refused-plain Wide refl)
+  word-right n w (Err why) e h k = rw (refused-wide w why e) (refused-plain Wide refl)
 
   unsound-right : (n : ℕ) (words : List ℕ) → 1 ≤ n → n + length words ≤ suc last → RightIn last (unsound_from n words)
   unfolding unsound_from
   unsound-right n words h k = first-right 1 last _ (λ m w a b. word-right m w (soundness_of w) refl a b) n words h k
 
-pub check-right : (w : ℕ) → RightIn 0 (refusal_in_word (soundness_of w))
+pub check-right : (w : ℕ) → RightIn 0 (refusal_in (soundness_of w))
 check-right w = by (soundness_of w) refl
   where
-    by : (a : Soundness) → soundness_of w ≡ a → RightIn 0 (refusal_in_word a)
-    by Sound e = passed-right
-    by (Unsound wrong) e = passed-right
-    by (Refused why) e = rw (refused-wide w why e) (unfold number_of in refused-plain Wide refl)
+    by : (a : Soundness) → soundness_of w ≡ a → RightIn 0 (refusal_in a)
+    by (Ok wrong) e = passed-right
+    by (Err why) e = rw (refused-wide w why e) (unfold number_of in refused-plain Wide refl)
 
 pub words_right : (words : List ℕ) → RightIn 255 (words_refusal words)
 unfolding words_refusal number_of
@@ -247,11 +245,11 @@ pub marked-right : (words block : List ℕ) → RightIn 0 (marked_refusal words 
 unfolding marked_refusal number_of
 marked-right words block = search (checks, block-right)
 
-pub place-right : (n : ℕ) → RightIn 0 (refusal_in (place_of n).checked)
-unfolding place_of place_in number_of
+pub place-right : (n : ℕ) → RightIn 0 (place_refusal n)
+unfolding place_refusal place_refused_in number_of
 place-right n = by (row_of n items)
   where
-    by : (o : Option Row) → RightIn 0 (refusal_in (place_in o).checked)
+    by : (o : Option Row) → RightIn 0 (place_refused_in o)
     by none = search checks
     by (some i) = search checks
 

@@ -7,35 +7,27 @@ use mathlib.Core.Option.{Option, none, some}
 use Prim.Native.Nat.{ℕ}
 use native.Mathlib.Omega.{arith}
 use borrow.Author.Tests.{leb-true, leb-false}
+use Rattle.std.specs.Prelude.{Result, Ok, Err}
 use Rattle.refusal.specs.Checked.{refusal_in}
 use Rattle.refusal.specs.Number.{number_of, bits_in}
 use Rattle.refusal.specs.declared.Reason.{Reason}
 use Rattle.refusal.specs.declared.Refusal.{Refusal}
 use Rattle.refusal.proofs.Laws.Number.{bits-seven, bits-le}
-use Rattle.refusal.proofs.Laws.Chain.{refusal-in}
-use Rattle.soundness.specs.Check.{refusal_in as refusal_in_word}
+use Rattle.refusal.proofs.Laws.Chain.{refusal-in, refusal-in-answer}
 use Rattle.rs.specs.Codeword.{divided_of}
-use Rattle.rs.specs.Check.{refusal_in as refusal_in_verdict}
 use Rattle.rs.proofs.Laws.Check.{refusal-said as check-said}
 use Rattle.view.specs.Read.{record_read_of}
-use Rattle.repair.specs.Repair.{refusal_in as refusal_in_repair}
 use Rattle.repair.proofs.Laws.Repair.{refusal-said as repair-said, count-said}
-use Rattle.writing.specs.Written.{refusal_in as refusal_in_writing}
 use Rattle.writing.proofs.Laws.Writing.{refusal-said as write-said, layout-said}
-use Rattle.reading.specs.Answer.{refusal_in as refusal_in_reading}
 use Rattle.reading.proofs.Laws.Answer.{refusal-said as read-said, into-refusal-said as into-said}
 use Rattle.steps.specs.Steps.{kept_of}
 use Rattle.desk.specs.Desk.{opened, edited, undone, sent}
-use Rattle.follower.specs.Follower.{refusal_in as refusal_in_heard}
 use Rattle.follower.proofs.Laws.Follow.{refusal-heard}
-use Rattle.b40.specs.Unpacking.{refusal_in as refusal_in_field}
 use Rattle.b40.proofs.Laws.Packing.{refusal-said as pack-said}
 use Rattle.b40.proofs.Laws.Unpacking.{refusal-said as unpack-said}
-use Rattle.reading.specs.declared.Reading.{Reading}
-use Rattle.reading.specs.declared.Reading.TheVariants.{Accepted, Refused}
+use Rattle.reading.specs.declared.Packet.{Packet}
 use Rattle.follower.specs.declared.Follower.{Follower}
-use Rattle.follower.specs.declared.Heard.{Heard}
-use Rattle.follower.specs.declared.Heard.TheVariants.{Accepted as Arrived, Refused as RefusedPacket}
+use Rattle.follower.specs.declared.Arrival.{Arrival}
 use Rattle.answers.specs.Answers.{answer_by, packet_from, heard_from, followed_from}
 use Rattle.answers.proofs.Laws.Done.{Says, word-says, verdict-says, packet-says, repaired-says, field-says, turn-says, followed-says}
 use Rattle.promises.specs.Places.{RightPlace, RightIn, BitsBeside, PlacesRight, AnswersRight, BitsRight}
@@ -145,7 +137,7 @@ sound-words κs i a s p = rw (p.0, refusal-in) (fill-right _ _)
 
 -- ---- soundness
 
-pub check-word : PlacesRight 0 check-word-types.ps check-word-types.r 0 (λ κs. refusal_in_word) check-word-contract.Learnt
+pub check-word : PlacesRight 0 check-word-types.ps check-word-types.r 0 (λ κs. refusal_in) check-word-contract.Learnt
 check-word κs i a s p = rw p (check-right _)
 
 -- of up to 255 words
@@ -154,11 +146,11 @@ check-words κs i a s p = rw (p, refusal-in) (words_right _)
 
 -- ---- rs, search and plain
 
-pub remainder : PlacesRight 1 remainder-types.ps remainder-types.r 0 (λ κs a. refusal_in a.checked) remainder-contract.Learnt
+pub remainder : PlacesRight 1 remainder-types.ps remainder-types.r 0 (λ κs. refusal_in) remainder-contract.Learnt
 unfolding divided_of
-remainder κs i a s p = rw (p, refusal-in) (block-right _)
+remainder κs i a s p = rw (p, refusal-in-answer) (block-right _)
 
-pub check-codeword : PlacesRight 1 check-codeword-types.ps check-codeword-types.r 0 (λ κs. refusal_in_verdict) check-codeword-contract.Learnt
+pub check-codeword : PlacesRight 1 check-codeword-types.ps check-codeword-types.r 0 (λ κs. refusal_in) check-codeword-contract.Learnt
 check-codeword κs i a s p = rw (p, check-said) (block-right _)
 
 pub search-repair : PlacesRight 1 search-repair-types.ps search-repair-types.r 0 (λ κs. refusal_in) search-repair-contract.Learnt
@@ -172,8 +164,8 @@ plain-repair κs i a s p = rw (p.0, refusal-in) (decode-right _)
 
 -- ---- items
 
-pub item-place : PlacesRight 0 item-place-types.ps item-place-types.r 0 (λ κs a. refusal_in a.checked) item-place-contract.Learnt
-item-place κs i a s p = rw p (place-right _)
+pub item-place : PlacesRight 0 item-place-types.ps item-place-types.r 0 (λ κs. refusal_in) item-place-contract.Learnt
+item-place κs i a s p = rw (p.0, refusal-in-answer) (place-right _)
 
 pub item-refusal : PlacesRight 1 item-refusal-types.ps item-refusal-types.r 0 (λ κs. refusal_in) item-refusal-contract.Learnt
 item-refusal κs i a s p = rw (p, refusal-in) (item-right _ _)
@@ -192,35 +184,35 @@ put_item κs i a s p = rw (p.0, refusal-in) (put_right _ _ _)
 pub store-item : PlacesRight 2 store-item-types.ps store-item-types.r 0 (λ κs. refusal_in) store-item-contract.Learnt
 store-item κs i a s p = rw (p.0, refusal-in) (store-right _ _ _)
 
-pub read-record : PlacesRight 1 read-record-types.ps read-record-types.r 0 (λ κs a. refusal_in a.checked) read-record-contract.Learnt
+pub read-record : PlacesRight 1 read-record-types.ps read-record-types.r 0 (λ κs. refusal_in) read-record-contract.Learnt
 unfolding record_read_of
-read-record κs i a s p = rw (p, refusal-in) (record-right _)
+read-record κs i a s p = rw (p, refusal-in-answer) (record-right _)
 
 -- ---- repair, writing and reading
 
-pub packet-repair : PlacesRight 2 packet-repair-types.ps packet-repair-types.r 0 (λ κs. refusal_in_repair) packet-repair-contract.Learnt
+pub packet-repair : PlacesRight 2 packet-repair-types.ps packet-repair-types.r 0 (λ κs. refusal_in) packet-repair-contract.Learnt
 packet-repair κs i a s p = rw (p.0, repair-said) (repair-right _ _)
 
-pub count-fixed : PlacesRight 2 count-fixed-types.ps count-fixed-types.r 0 (λ κs. refusal_in_repair) count-fixed-contract.Learnt
+pub count-fixed : PlacesRight 2 count-fixed-types.ps count-fixed-types.r 0 (λ κs. refusal_in) count-fixed-contract.Learnt
 count-fixed κs i a s p = rw (p, count-said) (count-right _ _)
 
-pub write-packet : PlacesRight 2 write-packet-types.ps write-packet-types.r 0 (λ κs. refusal_in_writing) write-packet-contract.Learnt
+pub write-packet : PlacesRight 2 write-packet-types.ps write-packet-types.r 0 (λ κs. refusal_in) write-packet-contract.Learnt
 write-packet κs i a s p = rw (p.0, write-said) (write-right _ _ _)
 
-pub write-layout : PlacesRight 2 write-layout-types.ps write-layout-types.r 0 (λ κs. refusal_in_writing) write-layout-contract.Learnt
+pub write-layout : PlacesRight 2 write-layout-types.ps write-layout-types.r 0 (λ κs. refusal_in) write-layout-contract.Learnt
 write-layout κs i a s p = rw (p.0, layout-said) (layout-right _ _ _)
 
-pub read-packet : PlacesRight 1 read-packet-types.ps read-packet-types.r 248 (λ κs. refusal_in_reading) read-packet-contract.Learnt
+pub read-packet : PlacesRight 1 read-packet-types.ps read-packet-types.r 248 (λ κs. refusal_in) read-packet-contract.Learnt
 read-packet κs i a s p = rw (p, read-said) (read_right _)
 
-pub read-packet-into : PlacesRight 2 read-packet-into-types.ps read-packet-into-types.r 248 (λ κs. refusal_in_reading) read-packet-into-contract.Learnt
+pub read-packet-into : PlacesRight 2 read-packet-into-types.ps read-packet-into-types.r 248 (λ κs. refusal_in) read-packet-into-contract.Learnt
 read-packet-into κs i a s p = rw (p.0, into-said) (into-right _ _)
 
 -- ---- steps and desk
 
-pub history-step : PlacesRight 1 history-step-types.ps history-step-types.r 0 (λ κs a. refusal_in a.checked) history-step-contract.Learnt
+pub history-step : PlacesRight 1 history-step-types.ps history-step-types.r 0 (λ κs. refusal_in) history-step-contract.Learnt
 unfolding kept_of
-history-step κs i a s p = rw (p, refusal-in) (step_right _ _)
+history-step κs i a s p = rw (p, refusal-in-answer) (step_right _ _)
 
 pub put_back : PlacesRight 1 put-back-types.ps put-back-types.r 0 (λ κs. refusal_in) put-back-contract.Learnt
 put_back κs i a s p = rw (p.0, refusal-in) (back-right _ _)
@@ -243,7 +235,7 @@ desk-send κs i a s p = rw (p.0, refusal-in) (send-right _)
 
 -- ---- follower
 
-pub follower-follow : PlacesRight 1 follower-follow-types.ps follower-follow-types.r 248 (λ κs a. refusal_in_heard a.heard) follower-follow-contract.Learnt
+pub follower-follow : PlacesRight 1 follower-follow-types.ps follower-follow-types.r 248 (λ κs a. refusal_in a.heard) follower-follow-contract.Learnt
 follower-follow κs i a s p = rw (p, refusal-heard) (read_right _)
 
 pub follower-shown-into : PlacesRight 1 follower-shown-into-types.ps follower-shown-into-types.r 0 (λ κs. refusal_in) follower-shown-into-contract.Learnt
@@ -251,10 +243,10 @@ follower-shown-into κs i a s p = rw (p.0, refusal-in) (shown-right _)
 
 -- ---- b40
 
-pub pack : PlacesRight 2 pack-types.ps pack-types.r 0 (λ κs. refusal_in_writing) pack-contract.Learnt
+pub pack : PlacesRight 2 pack-types.ps pack-types.r 0 (λ κs. refusal_in) pack-contract.Learnt
 pack κs i a s p = rw (p.0, pack-said) (pack-right _ _ _ _)
 
-pub unpack : PlacesRight 2 unpack-types.ps unpack-types.r 0 (λ κs. refusal_in_field) unpack-contract.Learnt
+pub unpack : PlacesRight 2 unpack-types.ps unpack-types.r 0 (λ κs. refusal_in) unpack-contract.Learnt
 unpack κs i a s p = rw (p.0, unpack-said) (unpack-right _ _)
 
 -- ---- the calls for C
@@ -334,15 +326,15 @@ reason-bits why = record {
 no_bits : BitsBeside 0 0
 no_bits = record { of_word = λ t. absurd (false≢true t); else_zero = λ f. refl }
 
-packet-bits : (a : Reading) → BitsBeside (packet_from a).number (packet_from a).bits
+packet-bits : (a : Result Packet Refusal) → BitsBeside (packet_from a).number (packet_from a).bits
 unfolding packet_from
-packet-bits (Accepted p) = no_bits
-packet-bits (Refused why) = reason-bits why.reason
+packet-bits (Ok p) = no_bits
+packet-bits (Err why) = reason-bits why.reason
 
-heard-bits : (f : Follower) (h : Heard) → BitsBeside (heard_from f h).number (heard_from f h).bits
+heard-bits : (f : Follower) (h : Result Arrival Refusal) → BitsBeside (heard_from f h).number (heard_from f h).bits
 unfolding heard_from
-heard-bits f (Arrived a) = no_bits
-heard-bits f (RefusedPacket why) = reason-bits why.reason
+heard-bits f (Ok a) = no_bits
+heard-bits f (Err why) = reason-bits why.reason
 
 pub ay-read-packet-bits : BitsRight 1 ay-read-packet-types.ps ay-read-packet-types.r (λ κs a. a.number) (λ κs a. a.bits) ay-read-packet-contract.Learnt
 ay-read-packet-bits κs i a s p = rw p (packet-bits _)

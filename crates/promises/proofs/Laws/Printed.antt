@@ -15,7 +15,7 @@ use Rattle.reading.specs.Reading.{read_bytes, read_refusal, read_record}
 use Rattle.reading.proofs.Laws.Whole.{read_length}
 use Rattle.b40.specs.Field.{words_of}
 use Rattle.b40.specs.Unpacking.{unpack_refusal, head_of}
-use Rattle.writing.specs.declared.Written.TheVariants.{Done}
+use Rattle.std.specs.Prelude.{Ok}
 use Rattle.lines.specs.declared.page.Page.{Page}
 use Rattle.lines.specs.Shown.{lines_by, field_lines, field_line, packet_line, numbers, item_lines, private_line}
 use Rattle.lines.proofs.Laws.Counted.{first_lines, last_line, first-lines, private-one}
@@ -47,7 +47,7 @@ printed-fifteen field page S e =
     )
 
 -- of a field that holds a packet as it was written, with correction on or off: its head, the packet and the items of the record
-pub written-shown : (on : Bool) (ci : ℕ) (bytes old words : List ℕ) → Writes on ci bytes old Done words
+pub written-shown : (on : Bool) (ci : ℕ) (bytes old words : List ℕ) → Writes on ci bytes old (Ok tt) words
     → (field : List ℕ) (page : Page) → Shows field page → unpack_refusal field 262 ≡ none → words_of field ≡ words
     → take page.length page.bytes
     ≡ field_line (head_of field).yc (head_of field).line (head_of field).offset ++ packet_line (record { correction = on; ci = ci; fixed = 0 }) ++ item_lines numbers (record_of bytes)

@@ -15,16 +15,15 @@ use Rattle.rs.specs.Decode.{decode_refusal}
 use Rattle.rs.proofs.Laws.Decode.{refused-keeps}
 use Rattle.search.specs.Marked.{marked_refusal}
 use Rattle.search.proofs.Laws.Marked.{refused-keeps-marked}
-use Rattle.refusal.specs.declared.Checked.{Checked}
-use Rattle.refusal.specs.Checked.{checked_of, refusal_in}
+use Rattle.refusal.specs.Checked.{Checked, checked_of, refusal_in}
 use Rattle.items.specs.Item.{item_refusal}
 use Rattle.record.specs.Stored.{put_refusal, put_leaves, store_refusal, store_leaves}
 use Rattle.record.specs.Written.{written_refusal, written}
 use Rattle.steps.specs.Steps.{back_refusal, back_from}
 use Rattle.refusal.proofs.Laws.Chain.{refusal-in}
-use Rattle.repair.specs.Repair.{repair_leaves, refusal_in as refusal_in_repair}
-use Rattle.writing.specs.Written.{write_leaves, layout_leaves, refusal_in as refusal_in_writing}
-use Rattle.reading.specs.Answer.{read_leaves, refusal_in as refusal_in_reading}
+use Rattle.repair.specs.Repair.{repair_leaves}
+use Rattle.writing.specs.Written.{write_leaves, layout_leaves}
+use Rattle.reading.specs.Answer.{read_leaves}
 use Rattle.repair.proofs.Laws.Repair.{refusal-said as repair-said}
 use Rattle.writing.proofs.Laws.Writing.{refusal-said as write-said, layout-said}
 use Rattle.reading.proofs.Laws.Answer.{into-refusal-said as read-said}
@@ -33,7 +32,7 @@ use Rattle.desk.specs.declared.Turn.{Turn}
 use Rattle.desk.specs.Desk.{edited, undo_refusal, undone, send_refusal, sent, send_leaves}
 use Rattle.follower.specs.declared.Follower.{Follower}
 use Rattle.follower.specs.declared.Followed.{Followed}
-use Rattle.follower.specs.Follower.{refused_after, shown_refusal, shown_leaves, refusal_in as refusal_in_heard}
+use Rattle.follower.specs.Follower.{refused_after, shown_refusal, shown_leaves}
 use Rattle.follower.proofs.Laws.Follow.{refused-said}
 use Rattle.answers.specs.declared.AyAnswer.{AyAnswer}
 use Rattle.answers.specs.declared.AyPacket.{AyPacket}
@@ -72,7 +71,7 @@ use Rattle.writing.proofs.write_layout.Reads as write-layout-contract
 use Rattle.reading.proofs.read_packet_into.Kinds as read-packet-into-types
 use Rattle.reading.proofs.read_packet_into.Reads as read-packet-into-contract
 use Rattle.b40.specs.Packing.{pack_leaves}
-use Rattle.b40.specs.Unpacking.{unpack_leaves, refusal_in as refusal_in_field}
+use Rattle.b40.specs.Unpacking.{unpack_leaves}
 use Rattle.b40.proofs.Laws.Packing.{refusal-said as pack-said}
 use Rattle.b40.proofs.Laws.Unpacking.{refusal-said as unpack-said}
 use Rattle.b40.proofs.pack.Kinds as pack-types
@@ -113,29 +112,29 @@ never-retired why = not-retired why.reason
 kept : {X : Type 0} (o : Option Refusal) (why : Refusal) (new old : X) → o ≡ some why → left_by o new old ≡ old
 kept o why new old e = ap (λ (p : Option Refusal). left_by p new old) e
 
-pub packet-repair : RefusedKeeps 2 repair-types.ps repair-types.r (λ κs. Tells refusal_in_repair) (λ κs i. i.1.0.now) (λ κs s. s.1.0.now) repair-contract.Learnt
+pub packet-repair : RefusedKeeps 2 repair-types.ps repair-types.r (λ κs. Tells refusal_in) (λ κs i. i.1.0.now) (λ κs s. s.1.0.now) repair-contract.Learnt
 unfolding repair_leaves
-packet-repair κs i a s p (why, e) = p.1 ∙ kept _ why _ _ (sym (repair-said i.0.now (length i.1.0.now)) ∙ ap refusal_in_repair (sym p.0) ∙ e)
+packet-repair κs i a s p (why, e) = p.1 ∙ kept _ why _ _ (sym (repair-said i.0.now (length i.1.0.now)) ∙ ap refusal_in (sym p.0) ∙ e)
 
-pub write-packet : RefusedKeeps 2 write-packet-types.ps write-packet-types.r (λ κs. Tells refusal_in_writing) (λ κs i. i.1.1.1.0.now) (λ κs s. s.1.1.1.0.now) write-packet-contract.Learnt
+pub write-packet : RefusedKeeps 2 write-packet-types.ps write-packet-types.r (λ κs. Tells refusal_in) (λ κs i. i.1.1.1.0.now) (λ κs s. s.1.1.1.0.now) write-packet-contract.Learnt
 unfolding write_leaves
-write-packet κs i a s p (why, e) = p.1 ∙ kept _ why _ _ (sym (write-said i.1.0 i.1.1.0.now (length i.1.1.1.0.now)) ∙ ap refusal_in_writing (sym p.0) ∙ e)
+write-packet κs i a s p (why, e) = p.1 ∙ kept _ why _ _ (sym (write-said i.1.0 i.1.1.0.now (length i.1.1.1.0.now)) ∙ ap refusal_in (sym p.0) ∙ e)
 
-pub write-layout : RefusedKeeps 2 write-layout-types.ps write-layout-types.r (λ κs. Tells refusal_in_writing) (λ κs i. i.1.1.1.0.now) (λ κs s. s.1.1.1.0.now) write-layout-contract.Learnt
+pub write-layout : RefusedKeeps 2 write-layout-types.ps write-layout-types.r (λ κs. Tells refusal_in) (λ κs i. i.1.1.1.0.now) (λ κs s. s.1.1.1.0.now) write-layout-contract.Learnt
 unfolding layout_leaves
-write-layout κs i a s p (why, e) = p.1 ∙ kept _ why _ _ (sym (layout-said i.1.0 i.1.1.0.now (length i.1.1.1.0.now)) ∙ ap refusal_in_writing (sym p.0) ∙ e)
+write-layout κs i a s p (why, e) = p.1 ∙ kept _ why _ _ (sym (layout-said i.1.0 i.1.1.0.now (length i.1.1.1.0.now)) ∙ ap refusal_in (sym p.0) ∙ e)
 
-pub read-packet-into : RefusedKeeps 2 read-packet-into-types.ps read-packet-into-types.r (λ κs. Tells refusal_in_reading) (λ κs i. i.1.0.now) (λ κs s. s.1.0.now) read-packet-into-contract.Learnt
+pub read-packet-into : RefusedKeeps 2 read-packet-into-types.ps read-packet-into-types.r (λ κs. Tells refusal_in) (λ κs i. i.1.0.now) (λ κs s. s.1.0.now) read-packet-into-contract.Learnt
 unfolding read_leaves
-read-packet-into κs i a s p (why, e) = p.1 ∙ kept _ why _ _ (sym (read-said i.0.now (length i.1.0.now)) ∙ ap refusal_in_reading (sym p.0) ∙ e)
+read-packet-into κs i a s p (why, e) = p.1 ∙ kept _ why _ _ (sym (read-said i.0.now (length i.1.0.now)) ∙ ap refusal_in (sym p.0) ∙ e)
 
-pub field-pack : RefusedKeeps 2 pack-types.ps pack-types.r (λ κs. Tells refusal_in_writing) (λ κs i. i.1.1.1.1.0.now) (λ κs s. s.1.1.1.1.0.now) pack-contract.Learnt
+pub field-pack : RefusedKeeps 2 pack-types.ps pack-types.r (λ κs. Tells refusal_in) (λ κs i. i.1.1.1.1.0.now) (λ κs s. s.1.1.1.1.0.now) pack-contract.Learnt
 unfolding pack_leaves
-field-pack κs i a s p (why, e) = p.1 ∙ kept _ why _ _ (sym (pack-said i.1.0 i.1.1.0 i.1.1.1.0.now (length i.1.1.1.1.0.now)) ∙ ap refusal_in_writing (sym p.0) ∙ e)
+field-pack κs i a s p (why, e) = p.1 ∙ kept _ why _ _ (sym (pack-said i.1.0 i.1.1.0 i.1.1.1.0.now (length i.1.1.1.1.0.now)) ∙ ap refusal_in (sym p.0) ∙ e)
 
-pub field-unpack : RefusedKeeps 2 unpack-types.ps unpack-types.r (λ κs. Tells refusal_in_field) (λ κs i. i.1.0.now) (λ κs s. s.1.0.now) unpack-contract.Learnt
+pub field-unpack : RefusedKeeps 2 unpack-types.ps unpack-types.r (λ κs. Tells refusal_in) (λ κs i. i.1.0.now) (λ κs s. s.1.0.now) unpack-contract.Learnt
 unfolding unpack_leaves
-field-unpack κs i a s p (why, e) = p.1 ∙ kept _ why _ _ (sym (unpack-said i.0.now (length i.1.0.now)) ∙ ap refusal_in_field (sym p.0) ∙ e)
+field-unpack κs i a s p (why, e) = p.1 ∙ kept _ why _ _ (sym (unpack-said i.0.now (length i.1.0.now)) ∙ ap refusal_in (sym p.0) ∙ e)
 
 -- a check that an answer tells
 checked-said : (o : Option Refusal) (a : Checked) (why : Refusal) → a ≡ checked_of o → refusal_in a ≡ some why → o ≡ some why
@@ -246,7 +245,7 @@ send-refused d old t left why S e =
 -- ---- the follower
 
 -- it differs from the one before in its count of refusals alone
-pub follow-refused : (f : Follower) (words : List ℕ) (a : Followed) (why : Refusal) → Follows f words a → refusal_in_heard a.heard ≡ some why → a.follower ≡ refused_after f
+pub follow-refused : (f : Follower) (words : List ℕ) (a : Followed) (why : Refusal) → Follows f words a → refusal_in a.heard ≡ some why → a.follower ≡ refused_after f
 follow-refused f words a why F e =
     let is = follows_is f words a F in
-    ap (λ (x : Followed). x.follower) is ∙ refused-said f words why (ap (λ (x : Followed). refusal_in_heard x.heard) (sym is) ∙ e)
+    ap (λ (x : Followed). x.follower) is ∙ refused-said f words why (ap (λ (x : Followed). refusal_in x.heard) (sym is) ∙ e)

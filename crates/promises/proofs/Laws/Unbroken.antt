@@ -7,13 +7,11 @@ use mathlib.Core.List.{List}
 use Prim.Native.Nat.{ℕ, ◌%◌}
 use native.Mathlib.Omega.{arith}
 use lib.ListN.{length}
-use Rattle.refusal.specs.Checked.{checked_of}
-use Rattle.refusal.specs.declared.Checked.{Checked}
-use Rattle.refusal.specs.declared.Checked.TheVariants.{Passed}
+use Rattle.std.specs.Prelude.{Ok}
+use Rattle.refusal.specs.Checked.{Checked, checked_of}
 use Rattle.record.specs.Record.{record_of}
 use Rattle.record.proofs.Laws.Reserved.{content-decides, content-zero, content-rules}
 use Rattle.record.proofs.Laws.Stored.{CleanRecord}
-use Rattle.writing.specs.declared.Written.{Written}
 use Rattle.writing.specs.Layout.{packet_words}
 use Rattle.writing.specs.Writing.{written_words}
 use Rattle.writing.proofs.Laws.Writing.{done-wrote, wrote-done}
@@ -41,7 +39,7 @@ module _ (d : Desk) (m : Model) (h : History d m) where
   }
 
   -- and the call that checks a record passes them
-  pub never-refused : (a : Checked) → ChecksRecord d.bytes a → a ≡ Passed
+  pub never-refused : (a : Checked) → ChecksRecord d.bytes a → a ≡ Ok tt
   never-refused a C = checks-record-is d.bytes a C ∙ ap checked_of (content-decides d.bytes clean.long ∙ clean.rules)
 
   module _ (old : List ℕ) (t : Turn) (left : List ℕ) (S : Sends d old t left) (n : length old ≡ 262) where
@@ -50,7 +48,7 @@ module _ (d : Desk) (m : Model) (h : History d m) where
     sent-record = (sent_is d m h old t left S n).1 ∙ ap (packet_words true (m.sends % 16)) (sym (stands d m h).bytes ∙ sym clean.own)
 
     -- the very ones that the call that writes a packet from bytes writes from its bytes
-    pub sent-written : (a : Written) (words : List ℕ) → Writes true (m.sends % 16) d.bytes old a words → left ≡ words
+    pub sent-written : (a : Checked) (words : List ℕ) → Writes true (m.sends % 16) d.bytes old a words → left ≡ words
     unfolding written_words
     sent-written a words W =
         let done = wrote-done (m.sends % 16) d.bytes clean.long (omega arith) clean.rules in

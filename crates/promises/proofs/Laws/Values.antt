@@ -13,8 +13,8 @@ use Rattle.basics.proofs.Laws.Test.{lt-or-le, never}
 use Rattle.gf256.specs.Field.{◌⊕◌, ◌⊗◌, by_bits, double}
 use Rattle.refusal.specs.declared.Wrong.TheVariants.{B8, B9, Both}
 use Rattle.anc.specs.Word.{is_sound, word_of, with_b9, bit, ones, parity_of as even_parity, total, checksum_of}
-use Rattle.soundness.specs.declared.Soundness.TheVariants.{Unsound}
-use Rattle.soundness.specs.Check.{b8_right, b9_right, soundness_by, soundness_of, unsound_from}
+use Rattle.std.specs.Prelude.{Ok, Some}
+use Rattle.soundness.specs.Check.{b8_right, b9_right, wrong_by, soundness_of, unsound_from}
 use Rattle.anc.proofs.Laws.Bits.{bit-lt, parity-low}
 use Rattle.anc.proofs.Laws.Word.{RightBits, sound-right, word-parts}
 use Rattle.soundness.proofs.Laws.Check.{narrow-answer}
@@ -77,11 +77,11 @@ module _ (w v b8 b9 : ℕ) (right : RightBits w) (t : Turned w v b8 b9) where
   same-parity : even_parity v ≡ even_parity w
   same-parity = sym (parity-low v) ∙ ap even_parity t.low ∙ parity-low w
 
-  answers : (x y : Bool) → eqb b8 (bit 8 w) ≡ x → eqb b9 (bit 9 w) ≡ y → soundness_of v ≡ soundness_by x y
+  answers : (x y : Bool) → eqb b8 (bit 8 w) ≡ x → eqb b9 (bit 9 w) ≡ y → soundness_of v ≡ Ok (wrong_by x y)
   unfolding b8_right b9_right
   answers x y p q =
       narrow-answer v t.ten
-      ∙ ap₂ soundness_by
+      ∙ ap₂ (λ (p q : Bool). Ok (wrong_by p q))
       (ap₂ eqb t.is-b8 (same-parity ∙ sym right.b8) ∙ p)
       (ap₂ eqb t.is-b9 (ap (λ (n : ℕ). 1 - n) same-parity ∙ sym right.b9) ∙ q)
 
@@ -96,10 +96,10 @@ module _ (w : ℕ) (s : is_sound w ≡ true) where
   right : RightBits w
   right = sound-right w s
 
-  b8-wrong : soundness_of (inverted 8 w) ≡ Unsound B8
+  b8-wrong : soundness_of (inverted 8 w) ≡ Ok (Some B8)
   b8-wrong = answers w (inverted 8 w) _ _ right (turns-b8 w right.ten) false true (turned_bit (bit 8 w)) (same_bit (bit 9 w))
 
-  b9-wrong : soundness_of (inverted 9 w) ≡ Unsound B9
+  b9-wrong : soundness_of (inverted 9 w) ≡ Ok (Some B9)
   b9-wrong = answers w (inverted 9 w) _ _ right (turns-b9 w right.ten) true false (same_bit (bit 8 w)) (turned_bit (bit 9 w))
 
   -- one after the other
@@ -109,7 +109,7 @@ module _ (w : ℕ) (s : is_sound w ≡ true) where
       let u = turns-b8 (inverted 9 w) t.ten in
       record { ten = u.ten; low = u.low ∙ t.low; is-b8 = u.is-b8 ∙ ap (λ (b : ℕ). 1 - b) t.is-b8; is-b9 = u.is-b9 ∙ t.is-b9 }
 
-  both-wrong : soundness_of (inverted 8 (inverted 9 w)) ≡ Unsound Both
+  both-wrong : soundness_of (inverted 8 (inverted 9 w)) ≡ Ok (Some Both)
   both-wrong = answers w (inverted 8 (inverted 9 w)) _ _ right twice false false (turned_bit (bit 8 w)) (turned_bit (bit 9 w))
 
 -- ---- from one index to another

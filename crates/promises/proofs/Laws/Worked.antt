@@ -34,14 +34,13 @@ use Rattle.desk.specs.declared.Desk.{Desk}
 use Rattle.desk.specs.Desk.{opened, edited, undone, sent, send_leaves, opening as desk-opening}
 use Rattle.desk.specs.Model.{fresh, edit_m, undo_to, send_m}
 use Rattle.follower.specs.declared.Follower.{Follower}
-use Rattle.follower.specs.declared.Heard.{Heard}
 use Rattle.follower.specs.Follower.{ceiling, followed, shown_by, shown_refusal, shown_leaves, opened as begun}
 use Rattle.follower.proofs.Laws.Count.{counted-true}
 use Rattle.lines.specs.Shown.{shown}
 use Rattle.lines.proofs.Laws.Shown.{shown-sized}
 use Rattle.promises.specs.Calls.{Opens, Edits, Undoes, Sends, Begins, Follows, Looks, LooksInto, Shows}
 use Rattle.promises.specs.PacketCalls.{ChecksWord, ChecksWords, ChecksCodeword, Writes, ReadsPacket, ReadsInto, Repairs}
-use Rattle.promises.specs.Line.{Delivers, Fate, unsent, waiting, dropped, delivered, Sent, Scene, opening as start, sent as send-to, turned, lost, heard, Line, opens, turns, sends, no_room, drops, delivers, repeats, repeats-earlier}
+use Rattle.promises.specs.Line.{Delivers, Heard, Fate, unsent, waiting, dropped, delivered, Sent, Scene, opening as start, sent as send-to, turned, lost, heard, Line, opens, turns, sends, no_room, drops, delivers, repeats, repeats-earlier}
 use Rattle.promises.specs.History.{edits, undoes}
 use Rattle.promises.proofs.Laws.Line.{Ordinary, waiting-ordinary, latest-ordinary, earlier-ordinary, demand-3}
 
