@@ -1,7 +1,13 @@
 -- Each call's answer is the only one that its contract allows, and so is what it leaves in a buffer that it was lent; and the two repairers
 -- agree. `Learnt` is the contract as its caller may use it.
 -- Assumes nothing.
-use mathlib.Core.Path.{sym, ◌∙◌}
+use mathlib.Core.Path.{◌≡◌, refl, sym, ap, ◌∙◌}
+use Prim.Native.Nat.{ℕ, ◌<◌}
+use native.Mathlib.Omega.{arith}
+use Rattle.std.specs.Prelude.{Option as Given, Some, None}
+use Rattle.std.specs.Option.{MatchOption}
+use Rattle.gf256.specs.Field.{pow}
+use Rattle.gf256.proofs.Laws.Product.{pow_pos, pow-inj}
 use Rattle.promises.specs.Only.{OneAnswer, OnePart, SameOutcome, OneOutcome}
 use Rattle.gf256.proofs.Laws.Tables.{powers-unique, logs-unique}
 use Rattle.gf256.proofs.Laws.Lent.{wheel-unique}
@@ -63,6 +69,16 @@ use Rattle.gf256.proofs.product.Kinds as product-types
 use Rattle.gf256.proofs.product.Reads as product-contract
 use Rattle.gf256.proofs.quotient.Kinds as quotient-types
 use Rattle.gf256.proofs.quotient.Reads as quotient-contract
+use Rattle.gf256.proofs.Tables.product.Kinds as tables-product-types
+use Rattle.gf256.proofs.Tables.product.Reads as tables-product-contract
+use Rattle.gf256.proofs.Tables.quotient.Kinds as tables-quotient-types
+use Rattle.gf256.proofs.Tables.quotient.Reads as tables-quotient-contract
+use Rattle.gf256.proofs.Tables.power.Kinds as tables-power-types
+use Rattle.gf256.proofs.Tables.power.Reads as tables-power-contract
+use Rattle.gf256.proofs.Tables.on_wheel.Kinds as tables-on-wheel-types
+use Rattle.gf256.proofs.Tables.on_wheel.Reads as tables-on-wheel-contract
+use Rattle.gf256.proofs.Tables.log.Kinds as tables-log-types
+use Rattle.gf256.proofs.Tables.log.Reads as tables-log-contract
 use Rattle.rs.proofs.divisor.Kinds as divisor-types
 use Rattle.rs.proofs.divisor.Reads as divisor-contract
 use Rattle.rs.proofs.parity.Kinds as parity-types
@@ -153,24 +169,26 @@ use Rattle.b40.proofs.unpack.Kinds as unpack-types
 use Rattle.b40.proofs.unpack.Reads as unpack-contract
 use Rattle.lines.proofs.show.Kinds as show-types
 use Rattle.lines.proofs.show.Reads as show-contract
-use Rattle.answers.proofs.checked.Kinds as answer-checked-types
-use Rattle.answers.proofs.checked.Reads as answer-checked-contract
-use Rattle.answers.proofs.written.Kinds as answer-written-types
-use Rattle.answers.proofs.written.Reads as answer-written-contract
-use Rattle.answers.proofs.word.Kinds as answer-word-types
-use Rattle.answers.proofs.word.Reads as answer-word-contract
-use Rattle.answers.proofs.verdict.Kinds as answer-verdict-types
-use Rattle.answers.proofs.verdict.Reads as answer-verdict-contract
-use Rattle.answers.proofs.packet.Kinds as answer-packet-types
-use Rattle.answers.proofs.packet.Reads as answer-packet-contract
-use Rattle.answers.proofs.repaired.Kinds as answer-repaired-types
-use Rattle.answers.proofs.repaired.Reads as answer-repaired-contract
-use Rattle.answers.proofs.field.Kinds as answer-field-types
-use Rattle.answers.proofs.field.Reads as answer-field-contract
-use Rattle.answers.proofs.turn.Kinds as answer-turn-types
-use Rattle.answers.proofs.turn.Reads as answer-turn-contract
-use Rattle.answers.proofs.followed.Kinds as answer-followed-types
-use Rattle.answers.proofs.followed.Reads as answer-followed-contract
+use Rattle.answers.proofs.AyAnswerFromResultUnitRefusal.from.Kinds as answer-checked-types
+use Rattle.answers.proofs.AyAnswerFromResultUnitRefusal.from.Reads as answer-checked-contract
+use Rattle.answers.proofs.AyAnswerFromRefusal.from.Kinds as answer-refusal-types
+use Rattle.answers.proofs.AyAnswerFromRefusal.from.Reads as answer-refusal-contract
+use Rattle.answers.proofs.AyWordFromRefusal.from.Kinds as answer-word-refusal-types
+use Rattle.answers.proofs.AyWordFromRefusal.from.Reads as answer-word-refusal-contract
+use Rattle.answers.proofs.AyWordFromResultOptionWrongRefusal.from.Kinds as answer-word-types
+use Rattle.answers.proofs.AyWordFromResultOptionWrongRefusal.from.Reads as answer-word-contract
+use Rattle.answers.proofs.AyVerdictFromResultBoolRefusal.from.Kinds as answer-verdict-types
+use Rattle.answers.proofs.AyVerdictFromResultBoolRefusal.from.Reads as answer-verdict-contract
+use Rattle.answers.proofs.AyPacketFromResultPacketRefusal.from.Kinds as answer-packet-types
+use Rattle.answers.proofs.AyPacketFromResultPacketRefusal.from.Reads as answer-packet-contract
+use Rattle.answers.proofs.AyRepairedFromResultU8Refusal.from.Kinds as answer-repaired-types
+use Rattle.answers.proofs.AyRepairedFromResultU8Refusal.from.Reads as answer-repaired-contract
+use Rattle.answers.proofs.AyFieldFromResultHeadRefusal.from.Kinds as answer-field-types
+use Rattle.answers.proofs.AyFieldFromResultHeadRefusal.from.Reads as answer-field-contract
+use Rattle.answers.proofs.AyTurnFromTurn.from.Kinds as answer-turn-types
+use Rattle.answers.proofs.AyTurnFromTurn.from.Reads as answer-turn-contract
+use Rattle.answers.proofs.AyFollowedFromFollowed.from.Kinds as answer-followed-types
+use Rattle.answers.proofs.AyFollowedFromFollowed.from.Reads as answer-followed-contract
 use Rattle.capi.proofs.ay_word_of.Kinds as ay-word-of-types
 use Rattle.capi.proofs.ay_word_of.Reads as ay-word-of-contract
 use Rattle.capi.proofs.ay_check_word.Kinds as ay-check-word-types
@@ -284,6 +302,28 @@ product κs i a b s t p q = p ∙ sym q
 
 pub quotient : OneAnswer 0 quotient-types.ps quotient-types.r quotient-contract.Learnt
 quotient κs i a b s t p q = p ∙ sym q
+
+pub tables-product : OneAnswer 1 tables-product-types.ps tables-product-types.r tables-product-contract.Learnt
+tables-product κs i a b s t p q = p ∙ sym q
+
+pub tables-quotient : OneAnswer 1 tables-quotient-types.ps tables-quotient-types.r tables-quotient-contract.Learnt
+tables-quotient κs i a b s t p q = p ∙ sym q
+
+pub tables-power : OneAnswer 1 tables-power-types.ps tables-power-types.r tables-power-contract.Learnt
+tables-power κs i a b s t p q = p ∙ sym q
+
+pub tables-on-wheel : OneAnswer 1 tables-on-wheel-types.ps tables-on-wheel-types.r tables-on-wheel-contract.Learnt
+tables-on-wheel κs i a b s t p q = p ∙ sym q
+
+-- no two powers of 2 below 255 are one byte, and none is 0
+one-log : (a : ℕ) (x y : Given ℕ) → MatchOption x (a ≡ 0) (λ k. (k < 255) × (pow 2 k ≡ a)) → MatchOption y (a ≡ 0) (λ k. (k < 255) × (pow 2 k ≡ a)) → x ≡ y
+one-log a None None p q = refl
+one-log a None (Some k) p q = absurd (omega (arith, pow_pos k, q.1, p))
+one-log a (Some j) None p q = absurd (omega (arith, pow_pos j, p.1, q))
+one-log a (Some j) (Some k) p q = ap Some (pow-inj j k p.0 q.0 (p.1 ∙ sym q.1))
+
+pub tables-log : OneAnswer 1 tables-log-types.ps tables-log-types.r tables-log-contract.Learnt
+tables-log κs i a b s t p q = one-log _ a b p q
 
 -- ---- rs
 
@@ -475,8 +515,11 @@ show κs i a b s t p q = p.0 ∙ sym q.0
 pub answer-checked : OneAnswer 0 answer-checked-types.ps answer-checked-types.r answer-checked-contract.Learnt
 answer-checked κs i a b s t p q = p ∙ sym q
 
-pub answer-written : OneAnswer 0 answer-written-types.ps answer-written-types.r answer-written-contract.Learnt
-answer-written κs i a b s t p q = p ∙ sym q
+pub answer-refusal : OneAnswer 0 answer-refusal-types.ps answer-refusal-types.r answer-refusal-contract.Learnt
+answer-refusal κs i a b s t p q = p ∙ sym q
+
+pub answer-word-refusal : OneAnswer 0 answer-word-refusal-types.ps answer-word-refusal-types.r answer-word-refusal-contract.Learnt
+answer-word-refusal κs i a b s t p q = p ∙ sym q
 
 pub answer_word : OneAnswer 0 answer-word-types.ps answer-word-types.r answer-word-contract.Learnt
 answer_word κs i a b s t p q = p ∙ sym q
