@@ -102,38 +102,3 @@ pointwise-turned (x ∷ a) (y ∷ b) = ap₂ ◌&&◌ (eqb-turned x y) (pointwis
   where
     eqb-turned : (x y : ℕ) → eqb x y ≡ eqb y x
     eqb-turned x y = same_test (eqb x y) (eqb y x) (λ e. eq-eqb y x (sym (eqb-true x y e))) (λ e. eq-eqb x y (sym (eqb-true y x e)))
-
--- ---- a loop that says whether two lists are equal
-
--- i entries have been passed, and `ok` says whether each of them is equal to the one in the other list
-pub record Matching (a b : List ℕ) (i : ℕ) (ok : Bool) : Type 0 where
-  pub within : i ≤ length a
-  pub as_long : length a ≡ length b
-  pub so_far : same a b ≡ (ok && same (drop i a) (drop i b))
-
-module _ (a b : List ℕ) where
-  -- the entries at i, and then the rest
-  same_step : (i : ℕ) → i < length a → i < length b → same (drop i a) (drop i b) ≡ (eqb (get_or a i 0) (get_or b i 0) && same (drop (i + 1) a) (drop (i + 1) b))
-  unfolding same
-  same_step i h k = rw (add-one, drop-cons a i 0 h, drop-cons b i 0 k)
-
-  -- no entry is left
-  same_end : (i : ℕ) → length a ≤ i → length b ≤ i → same (drop i a) (drop i b) ≡ true
-  unfolding same
-  same_end i h k = rw (drop_of_length-le a h, drop_of_length-le b k)
-
-  -- none yet
-  pub matching-none : length a ≡ length b → Matching a b 0 true
-  matching-none e = record { within = omega arith; as_long = e; so_far = refl }
-
-  -- one more
-  pub matching-more : (i : ℕ) (ok more : Bool) → Matching a b i ok → i < length a → more ≡ (ok && eqb (get_or a i 0) (get_or b i 0)) → Matching a b (i + 1) more
-  matching-more i ok more p h e = record {
-    within = omega arith;
-    as_long = p.as_long;
-    so_far = p.so_far ∙ ap (◌&&◌ ok) (same_step i h (omega arith)) ∙ sym (and_assoc ok _ _) ∙ ap (λ (t : Bool). t && same (drop (i + 1) a) (drop (i + 1) b)) (sym e);
-  }
-
-  -- all of them
-  pub matching-all : (i : ℕ) (ok : Bool) → Matching a b i ok → length a ≤ i → ok ≡ same a b
-  matching-all i ok p h = sym (p.so_far ∙ ap (◌&&◌ ok) (same_end i h (omega arith)) ∙ and-true ok)

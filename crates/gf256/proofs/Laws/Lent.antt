@@ -7,7 +7,6 @@ use Prim.Native.Nat.{ℕ, zero, suc, ◌+◌, ◌-◌, ◌≤◌, ◌<◌}
 use mathlib.Core.Logic.{⊎_elim}
 use native.Mathlib.Nat.{zero-lt-suc}
 use native.Mathlib.Omega.{arith}
-use lib.Dec.{lit<}
 use lib.ListN.{length, get_or, drop, replicate, length-append, length-drop, get_or-append}
 use lib.Seq.{ext_get_or}
 use Rattle.std.proofs.lemmas.Bool.Decides.{nat_tests}
@@ -16,7 +15,7 @@ use Rattle.gf256.specs.Field.{◌⊗◌, pow, over}
 use Rattle.gf256.specs.Tables.{PowerTable, LogTable}
 use Rattle.gf256.specs.Lent.{Wheel, on_wheel, log_in, product_in, quotient_in}
 use Rattle.basics.proofs.Laws.Test.{lt-or-le}
-use Rattle.gf256.proofs.Laws.Product.{⊗-zero-l, ⊗-zero-r, pow-add, pow-lt, pow_pos, pow-inj, pow-around, over-unique, over-zero-l, over-zero-r}
+use Rattle.gf256.proofs.Laws.Product.{⊗-zero-l, ⊗-zero-r, pow-add, pow-lt, pow-around, over-unique, over-zero-l, over-zero-r}
 
 -- ---- what `log_in` gives
 
@@ -37,10 +36,6 @@ pub log-of : (l : List ℕ) (a : ℕ) → 0 < a → log_in l a ≡ get_or l a 0
 unfolding log_in
 log-of l zero p = absurd (omega arith)
 log-of l (suc a) p = refl
-
-pub log-pos : (l : List ℕ) (a : ℕ) → 0 < a → a < 256 → LogTable l → IsLog a (log_in l a)
-log-pos l zero p h t = absurd (omega arith)
-log-pos l (suc a) p h t = log-suc l a h t
 
 -- ---- the product
 

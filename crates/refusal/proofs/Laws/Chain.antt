@@ -186,11 +186,6 @@ answer-all (Err why) = refl
 pub chained-all : {answer : Checked} {chain : Option Refusal → Option Refusal} → Chained answer chain → answer ≡ checked_of (chain passed)
 chained-all {answer} c = answer-all answer ∙ ap checked_of (c.behind passed)
 
--- and so with the checks of a further call behind it
-pub chained-last : {answer last whole : Checked} {chain : Option Refusal → Option Refusal} (o : Option Refusal) → Chained answer chain → last ≡ checked_of o
-    → whole ≡ checked_of (next (refusal_in answer) (refusal_in last)) → whole ≡ checked_of (chain o)
-chained-last {answer} o c l e = e ∙ ap (λ (p : Option Refusal). checked_of (next (refusal_in answer) p)) (ap refusal_in l ∙ refusal-in o) ∙ ap checked_of (c.behind o)
-
 -- ---- a chain that goes on by `?`
 
 -- a check that passed, and one that failed

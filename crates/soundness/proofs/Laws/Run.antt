@@ -6,8 +6,8 @@ use mathlib.Core.List.{List, [], ◌∷◌}
 use mathlib.Core.Logic.Iff
 use mathlib.Core.Logic.{◌↔◌}
 use mathlib.Core.Option.{none, some, some-ne-none}
-use Prim.Native.Nat.{ℕ, suc, ◌≤◌, ◌<◌}
-use borrow.Author.Tests.{le-leb, lt-leb, leb-true}
+use Prim.Native.Nat.{ℕ, suc, ◌≤◌}
+use borrow.Author.Tests.{le-leb, leb-true}
 use lib.Dec.{leb, eqb}
 use lib.ListN.{length}
 use Rattle.basics.specs.Each.{all}
@@ -16,7 +16,7 @@ use Rattle.refusal.specs.Chain.{next}
 use Rattle.refusal.specs.Run.{first_from, FirstRefused}
 use Rattle.refusal.specs.Number.{number_of, refusal_at, refusal_plain}
 use Rattle.refusal.specs.declared.Wrong.{Wrong}
-use Rattle.refusal.specs.declared.Reason.TheVariants.{Wide, Parity, Size}
+use Rattle.refusal.specs.declared.Reason.TheVariants.{Wide, Parity}
 use Rattle.refusal.specs.declared.Refusal.{Refusal}
 use Rattle.refusal.proofs.Laws.Chain.{next-passed, passed-other, other-number, Without, without-passed, without-refused}
 use Rattle.refusal.proofs.Laws.Run.{first-exactly as first-refused, first-without}
@@ -121,7 +121,3 @@ unsound-found n (w ∷ words) t f =
 pub words-few : (words : List ℕ) → length words ≤ 255 → words_refusal words ≡ unsound_from 1 words
 unfolding words_refusal
 words-few words h = rw (le-leb (length words) 255 h)
-
-pub words-many : (words : List ℕ) → 255 < length words → words_refusal words ≡ some (refusal_plain Size)
-unfolding words_refusal
-words-many words h = rw (lt-leb (length words) 255 h)

@@ -1,13 +1,11 @@
 -- The history that steps stand for: the records before each of them, the newest first, and what one more step, or one fewer, makes of it.
 -- Assumes nothing.
 use mathlib.Core.Path.{◌≡◌, refl, sym, ap, ◌∙◌}
-use mathlib.Core.Bool.{Bool, true, false, cond}
 use mathlib.Core.List.{List, [], ◌∷◌, ◌++◌, reverse, reverse-append, reverse_aux-eq}
 use mathlib.Core.Logic.{⊎_elim}
 use Prim.Native.Nat.{ℕ, zero, suc, ◌+◌, ◌-◌, ◌≤◌, ◌<◌}
 use native.Mathlib.Numerals.{add-one}
 use native.Mathlib.Omega.{arith}
-use lib.Dec.{ltb}
 use lib.ListN.{length, take, drop, get_or, replicate, length-append, length-reverse, length-take, length-drop, length-set}
 use lib.Seq.{take-suc, take-suc-set, take_all, take_at}
 use borrow.Author.Tests.{lt-ltb, le-ltb}
@@ -42,18 +40,6 @@ unwound-take (suc k) (s ∷ ss) r = ap (λ (l : List (List ℕ)). back_from s r 
 pub held-few : (count : ℕ) → count ≤ 32 → held_of count ≡ count
 unfolding held_of
 held-few count h = simp (le-ltb 32 count h)
-
-pub held-zero : (count : ℕ) → held_of count ≡ 0 → count ≡ 0
-unfolding held_of
-held-zero count = by (ltb 32 count)
-  where
-    by : (t : Bool) → cond t 32 count ≡ 0 → count ≡ 0
-    by true e = absurd (let z : ◌≡◌ {A = ℕ} 32 0 = e in omega arith)
-    by false e = e
-
-pub held-some : (count : ℕ) → (held_of count ≡ 0 → ⊥) → 0 < count
-unfolding held_of
-held-some count f = ⊎_elim (λ h. h) (λ h. absurd (f (let z : count ≡ 0 = omega arith in rw z))) (lt-or-le 0 count)
 
 -- ---- one step more
 
