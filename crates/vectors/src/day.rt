@@ -1,9 +1,7 @@
 // A day of a desk and a follower over a damaged line: edits, undos, sends, drops, repeats of a packet and of a frame of two, and in each delivery as
 // many bad words as the line may have.
-use crate::alike::same;
 use desk::Desk;
 use follower::Follower;
-use std::num::wrapping_add_u32;
 
 // A packet that was sent: its words, and the record in them.
 #[derive(Clone, Copy)]
@@ -33,8 +31,7 @@ pub(crate) struct Day {
 
 // The desk that an opening hands back.
 pub(crate) fn fresh() -> Desk {
-    let opening = Desk::open(true);
-    opening.desk
+    Desk::open(true).desk
 }
 
 // The next of a run of numbers that look like chance.
@@ -44,10 +41,10 @@ fn next(x: u64) -> u64 {
     b ^ (b << 17)
 }
 
-// Puts a word at a place, where there is one.
-pub(crate) fn change(words: &mut [u16], at: usize, word: u16) {
-    if at < words.len() {
-        words[at] = word;
+// Puts a byte or a word at a place, where there is one.
+pub(crate) fn change<T: Copy>(entries: &mut [T], at: usize, entry: T) {
+    if let Some(place) = entries.get_mut(at) {
+        *place = entry;
     }
 }
 
@@ -59,10 +56,7 @@ fn place(chance: u64) -> usize {
 // A word that is not sound: its b8 and b9 are both 0, or both 1.
 fn confessing(chance: u64) -> u16 {
     let byte = (chance / 2 % 256) as u16;
-    if chance % 2 == 0 {
-        return byte;
-    }
-    byte + 768
+    if chance % 2 == 0 { byte } else { byte + 768 }
 }
 
 // Changes three protected words to any ten-bit values.
@@ -100,138 +94,121 @@ fn two_confess(words: &mut [u16], chance: u64) {
 
 // Changes protected words as the line may: with 2e + f at most 6.
 fn damage(words: &mut [u16], chance: u64) {
-    if chance % 3 == 0 {
-        any_three(words, chance / 3);
-    } else {
-        if chance % 3 == 1 {
-            six_confess(words, chance / 3);
-        } else {
-            two_confess(words, chance / 3);
-        }
+    match chance % 3 {
+        0 => any_three(words, chance / 3),
+        1 => six_confess(words, chance / 3),
+        _ => two_confess(words, chance / 3),
     }
 }
 
 // Fills bytes with a run of numbers that look like chance.
 pub(crate) fn fill(bytes: &mut [u8], chance: u64) {
     let mut x = chance;
-    let mut i = 0;
-    while i < bytes.len() {
-        let y = next(x);
-        bytes[i] = (y % 256) as u8;
-        x = y;
-        i += 1;
+    for byte in bytes {
+        x = next(x);
+        *byte = (x % 256) as u8;
     }
 }
 
 // An edit of the sound mode, of the triggers or of the private bytes, or an undo.
 fn turned(desk: Desk, chance: u64) -> Desk {
-    if chance % 4 == 0 {
-        let mode = [(chance / 4 % 27) as u8];
-        let turn = desk.edit(6, &mode);
-        return turn.desk;
-    }
-    if chance % 4 == 1 {
-        let mut private = [0u8; 141];
-        fill(&mut private, chance);
-        let turn = desk.edit(13, &private);
-        return turn.desk;
-    }
-    if chance % 4 == 2 {
-        let triggers = [
-            (chance / 5 % 256) as u8,
-            (chance / 7 % 256) as u8,
-            (chance / 9 % 256) as u8,
-            (chance / 17 % 256) as u8,
-        ];
-        let turn = desk.edit(9, &triggers);
-        return turn.desk;
-    }
-    let turn = desk.undo();
+    let turn = match chance % 4 {
+        0 => desk.edit(6, &[(chance / 4 % 27) as u8]),
+        1 => {
+            let mut private = [0; 141];
+            fill(&mut private, chance);
+            desk.edit(13, &private)
+        }
+        2 => desk.edit(
+            9,
+            &[chance / 5, chance / 7, chance / 9, chance / 17].map(|n| (n % 256) as u8),
+        ),
+        _ => desk.undo(),
+    };
     turn.desk
 }
 
-// One if the follower shows this record, with these true counts.
-pub(crate) fn agrees(bytes: [u8; 248], follower: Follower, missed: u32, repeated: u32) -> u32 {
-    let shown = follower.shown();
-    if same(&bytes, &shown)
-        & (follower.missed == missed)
-        & (follower.repeated == repeated)
-        & (follower.refused == 0)
-    {
-        return 1;
-    }
-    0
+// Does the follower show this record, with these true counts?
+pub(crate) fn agrees(bytes: [u8; 248], follower: Follower, missed: u32, repeated: u32) -> bool {
+    follower.shown() == bytes
+        && follower.missed == missed
+        && follower.repeated == repeated
+        && follower.refused == 0
 }
 
-// The packet arrives, damaged; `again` is 1 where it is a repeat.
-fn arrives(mut day: Day, packet: Sent, again: u32) -> Day {
-    let chance = next(day.chance);
-    let mut damaged = packet.words;
-    damage(&mut damaged, chance);
-    let before = day.follower;
-    let followed = before.follow(&damaged);
-    let follower = followed.follower;
-    let repeated = wrapping_add_u32(day.repeated, again);
-    let bytes = packet.bytes;
-    let agreed = agrees(bytes, follower, day.missed, repeated);
-    day.follower = follower;
-    day.chance = chance;
-    day.gap = 0;
-    day.begun = true;
-    day.delivered = wrapping_add_u32(day.delivered, 1);
-    day.repeated = repeated;
-    day.agreed = wrapping_add_u32(day.agreed, agreed);
-    day
-}
-
-// The frame of two packets is repeated, twice.
-fn frame_again(day: Day, earlier: Sent, latest: Sent) -> Day {
-    let one = arrives(day, earlier, 1);
-    let two = arrives(one, latest, 1);
-    let three = arrives(two, earlier, 1);
-    let mut four = arrives(three, latest, 1);
-    four.frames = wrapping_add_u32(four.frames, 2);
-    four
-}
-
-// What the line makes of a packet: it is lost, or it arrives, and then perhaps again, or in a frame with the one before it.
-fn carried(mut day: Day, packet: Sent, chance: u64) -> Day {
-    if (chance / 1000 % 4 == 0) & (day.gap < 13) {
-        let lost = if day.begun { 1 } else { 0 };
-        day.gap = wrapping_add_u32(day.gap, 1);
-        day.missed = wrapping_add_u32(day.missed, lost);
-        day.came = false;
-        return day;
+impl Day {
+    // The packet arrives, damaged; `again` says whether it is a repeat.
+    fn arrives(self, packet: Sent, again: bool) -> Self {
+        let chance = next(self.chance);
+        let mut damaged = packet.words;
+        damage(&mut damaged, chance);
+        let follower = self.follower.follow(&damaged).follower;
+        let repeated = self.repeated.wrapping_add(u32::from(again));
+        let agreed = agrees(packet.bytes, follower, self.missed, repeated);
+        Day {
+            delivered: self.delivered.wrapping_add(1),
+            repeated,
+            agreed: self.agreed.wrapping_add(u32::from(agreed)),
+            gap: 0,
+            begun: true,
+            chance,
+            follower,
+            ..self
+        }
     }
-    let earlier = day.latest;
-    let both = day.came;
-    let mut once = arrives(day, packet, 0);
-    once.came = true;
-    if chance / 5000 % 3 == 0 {
-        return arrives(once, packet, 1);
-    }
-    if (chance / 5000 % 3 == 1) & both {
-        return frame_again(once, earlier, packet);
-    }
-    once
-}
 
-// A turn at the desk, a send, and what the line makes of it.
-fn tick(mut day: Day) -> Day {
-    let chance = next(day.chance);
-    let before = day.desk;
-    let desk = turned(before, chance);
-    let mut words = [0u16; 262];
-    let sending = desk.send(&mut words);
-    let bytes = desk.bytes;
-    let packet = Sent { words, bytes };
-    let after = sending.desk;
-    day.desk = after;
-    day.chance = chance;
-    day.sent = wrapping_add_u32(day.sent, 1);
-    let mut later = carried(day, packet, chance);
-    later.latest = packet;
-    later
+    // The frame of two packets is repeated, twice.
+    fn frame_again(self, earlier: Sent, latest: Sent) -> Self {
+        let mut day = self;
+        for packet in [earlier, latest, earlier, latest] {
+            day = day.arrives(packet, true);
+        }
+        Day {
+            frames: day.frames.wrapping_add(2),
+            ..day
+        }
+    }
+
+    // What the line makes of a packet: it is lost, or it arrives, and then perhaps again, or in a frame with the one before it.
+    fn carried(self, packet: Sent, chance: u64) -> Self {
+        if chance / 1000 % 4 == 0 && self.gap < 13 {
+            return Day {
+                gap: self.gap.wrapping_add(1),
+                missed: self.missed.wrapping_add(u32::from(self.begun)),
+                came: false,
+                ..self
+            };
+        }
+        let once = Day {
+            came: true,
+            ..self.arrives(packet, false)
+        };
+        match chance / 5000 % 3 {
+            0 => once.arrives(packet, true),
+            1 if self.came => once.frame_again(self.latest, packet),
+            _ => once,
+        }
+    }
+
+    // A turn at the desk, a send, and what the line makes of it.
+    fn tick(self) -> Self {
+        let chance = next(self.chance);
+        let desk = turned(self.desk, chance);
+        let mut words = [0; 262];
+        let sending = desk.send(&mut words);
+        let bytes = desk.bytes;
+        let packet = Sent { words, bytes };
+        let sent = Day {
+            sent: self.sent.wrapping_add(1),
+            chance,
+            desk: sending.desk,
+            ..self
+        };
+        Day {
+            latest: packet,
+            ..sent.carried(packet, chance)
+        }
+    }
 }
 
 // Two thousand packets.
@@ -248,17 +225,14 @@ pub(crate) fn run() -> Day {
         came: false,
         chance: 20261115,
         latest: Sent {
-            words: [0u16; 262],
-            bytes: [0u8; 248],
+            words: [0; 262],
+            bytes: [0; 248],
         },
         desk: fresh(),
         follower: Follower::open(),
     };
-    let mut n: usize = 0;
-    while n < 2000 {
-        let next = tick(day);
-        day = next;
-        n += 1;
+    for _ in 0..2000 {
+        day = day.tick();
     }
     day
 }

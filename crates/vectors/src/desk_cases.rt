@@ -1,7 +1,7 @@
 // Cases that are run: three changed words, six that confess, correction off at opening and at a follower, the end of the history, and the private
 // bytes edited and undone.
-use crate::alike::same;
 use crate::day;
+use answers::AyTurn;
 use desk::Desk;
 use follower::Follower;
 
@@ -14,18 +14,16 @@ fn change_three(words: &mut [u16], a: usize, b: usize, c: usize) {
 
 // How many words are fixed in a fresh desk's packet with three of its words changed; 255 where it is refused.
 pub(crate) fn fixed_with(a: usize, b: usize, c: usize) -> u64 {
-    let mut words = [0u16; 262];
-    let desk = day::fresh();
-    desk.send(&mut words);
+    let mut words = [0; 262];
+    day::fresh().send(&mut words);
     change_three(&mut words, a, b, c);
     fixed(&words)
 }
 
 // The same with six of them, the first three protected ones and the last three.
 pub(crate) fn fixed_at_both_ends() -> u64 {
-    let mut words = [0u16; 262];
-    let desk = day::fresh();
-    desk.send(&mut words);
+    let mut words = [0; 262];
+    day::fresh().send(&mut words);
     change_three(&mut words, 7, 8, 9);
     change_three(&mut words, 258, 259, 260);
     fixed(&words)
@@ -33,15 +31,14 @@ pub(crate) fn fixed_at_both_ends() -> u64 {
 
 // How many words are fixed in a packet; 255 where it is refused.
 fn fixed(words: &[u16]) -> u64 {
-    let reading = reading::read_packet(words);
-    match reading {
-        reading::Reading::Accepted(p) => p.fixed as u64,
-        reading::Reading::Refused(_) => 255,
+    match reading::read_packet(words) {
+        Ok(packet) => u64::from(packet.fixed),
+        Err(_) => 255,
     }
 }
 
 // How many undos are done after some edits, and the number of the refusal that ends them.
-#[derive(Clone, Copy)]
+#[derive(Clone, Copy, Debug, PartialEq, Eq)]
 pub(crate) struct Undone {
     pub count: u64,
     pub number: u64,
@@ -50,73 +47,62 @@ pub(crate) struct Undone {
 // A desk after that many edits of the sound mode.
 fn edited(edits: usize) -> Desk {
     let mut desk = day::fresh();
-    let mut n: usize = 0;
-    while n < edits {
-        let mode = [(n % 27) as u8];
-        let turn = desk.edit(6, &mode);
-        let next = turn.desk;
-        desk = next;
-        n += 1;
+    for n in 0..edits {
+        desk = desk.edit(6, &[(n % 27) as u8]).desk;
     }
     desk
 }
 
 pub(crate) fn undos_after(edits: usize) -> Undone {
     let mut desk = edited(edits);
-    let mut count: u64 = 0;
-    let mut n: usize = 0;
-    while n < 100 {
-        let told = answers::turn(desk.undo());
-        let number = told.number as u64;
+    for count in 0..100 {
+        let told = AyTurn::from(desk.undo());
+        let number = u64::from(told.number);
         if number != 0 {
             return Undone { count, number };
         }
-        let next = told.desk;
-        desk = next;
-        count = std::num::wrapping_add_u64(count, 1);
-        n += 1;
+        desk = told.desk;
     }
-    Undone { count, number: 0 }
+    Undone {
+        count: 100,
+        number: 0,
+    }
 }
 
 // The number of the refusal of an opening with correction off; 255 where the record beside it is not that of a fresh desk.
 pub(crate) fn opened_off() -> u64 {
-    let told = answers::turn(Desk::open(false));
-    if same_bytes(told.desk, day::fresh()) {
-        return told.number as u64;
+    let told = AyTurn::from(Desk::open(false));
+    if told.desk.bytes == day::fresh().bytes {
+        u64::from(told.number)
+    } else {
+        255
     }
-    255
 }
 
 // One if a follower takes the packet of the opening record with correction off, and then shows that record.
 pub(crate) fn off_followed() -> u64 {
-    let desk = day::fresh();
-    let bytes = desk.bytes;
-    let mut words = [0u16; 262];
-    writing::write_packet(false, 0, &bytes, &mut words);
-    let follower = Follower::open();
-    let followed = follower.follow(&words);
-    day::agrees(bytes, followed.follower, 0, 0) as u64
+    let bytes = day::fresh().bytes;
+    let mut words = [0; 262];
+    let _ = writing::write_packet(false, 0, &bytes, &mut words);
+    let followed = Follower::open().follow(&words);
+    u64::from(day::agrees(bytes, followed.follower, 0, 0))
 }
 
 // The number of the refusal of an edit at a fresh desk with the first `count` of 141 bytes; 0 where there is none, 255 where there are not so many bytes.
 pub(crate) fn edit_with(item: u8, count: usize) -> u64 {
-    let mut bytes = [0u8; 141];
+    let mut bytes = [0; 141];
     day::fill(&mut bytes, 20261116);
-    let desk = day::fresh();
-    if 141 < count {
-        return 255;
+    match bytes.get(..count) {
+        Some(first) => u64::from(AyTurn::from(day::fresh().edit(item, first)).number),
+        None => 255,
     }
-    let told = answers::turn(desk.edit(item, &bytes[0..count]));
-    told.number as u64
 }
 
 // A desk after an edit of the private bytes.
 fn with_private(desk: Desk, chance: u64) -> Desk {
-    let mut bytes = [0u8; 141];
+    let mut bytes = [0; 141];
     day::fill(&mut bytes, chance);
-    let turn = desk.edit(13, &bytes);
-    turn.desk
+    desk.edit(13, &bytes).desk
 }
 
 // One if two undos after two edits of the private bytes give back, one after the other, the records that were there before.
@@ -124,18 +110,7 @@ pub(crate) fn private_undone() -> u64 {
     let fresh = day::fresh();
     let once = with_private(fresh, 1);
     let twice = with_private(once, 2);
-    let first = twice.undo();
-    let back = first.desk;
-    let second = back.undo();
-    if same_bytes(back, once) & same_bytes(second.desk, fresh) {
-        return 1;
-    }
-    0
-}
-
-// Have two desks the same bytes?
-fn same_bytes(a: Desk, b: Desk) -> bool {
-    let x = a.bytes;
-    let y = b.bytes;
-    same(&x, &y)
+    let back = twice.undo().desk;
+    let again = back.undo().desk;
+    u64::from(back.bytes == once.bytes && again.bytes == fresh.bytes)
 }

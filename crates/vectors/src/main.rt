@@ -4,11 +4,9 @@
 // what was compared.
 #![tactic(auto)]
 
-mod alike;
 mod day;
 mod desk_cases;
 mod foreign;
-mod input;
 mod outside;
 
 use std::io;
@@ -111,15 +109,15 @@ fn main(rt: HostRuntime) -> io::Result<()> {
         foreign::sent_with(59),
     )?;
     let day = day::run();
-    line(&rt, "a day, packets sent: ", day.sent as u64)?;
-    line(&rt, "delivered: ", day.delivered as u64)?;
-    line(&rt, "of them repeats: ", day.repeated as u64)?;
-    line(&rt, "in these, frames of two: ", day.frames as u64)?;
-    line(&rt, "missed: ", day.missed as u64)?;
+    line(&rt, "a day, packets sent: ", u64::from(day.sent))?;
+    line(&rt, "delivered: ", u64::from(day.delivered))?;
+    line(&rt, "of them repeats: ", u64::from(day.repeated))?;
+    line(&rt, "in these, frames of two: ", u64::from(day.frames))?;
+    line(&rt, "missed: ", u64::from(day.missed))?;
     line(
         &rt,
         "deliveries at which desk and follower agreed: ",
-        day.agreed as u64,
+        u64::from(day.agreed),
     )?;
     Ok(())
 }
