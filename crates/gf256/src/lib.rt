@@ -118,6 +118,13 @@ impl Tables {
         if k < 1021 { self.wheel[k] } else { 0 }
     }
 
+    // The wheel itself, for code that looks at many of its places and knows that they are on it: `on_wheel` tests each.
+    pub fn wheel(&self) -> &[u8; 1021]
+        ensures { Wheel result.now }
+    {
+        &self.wheel
+    }
+
     // The logarithm, which is the power of 2 that a byte is. 0 has none.
     pub fn log(&self, a: u8) -> Option<usize>
         ensures { MatchOption result (a ≡ 0) (λ k. (k < 255) × (pow 2 k ≡ a)) }

@@ -104,11 +104,9 @@ fn top_root(tables: &Tables, l: Locator) -> Option<Place>
 {
     let la = tables.log(l.a).unwrap_or(510);
     let lc = tables.log(l.c).unwrap_or(510);
+    let wheel = tables.wheel();
     for k in (0..254).rev() {
-        let square = tables.on_wheel(k + k);
-        let linear = tables.on_wheel(la + k);
-        let inverse = tables.on_wheel(lc + 255 - k);
-        if sum3(square, linear, inverse) == l.b {
+        if sum3(wheel[k + k], wheel[la + k], wheel[lc + 255 - k]) == l.b {
             return Some(Place { exponent: k });
         }
     }
