@@ -10,6 +10,7 @@ use native.Mathlib.Omega.{arith}
 use lib.Dec.{eqb}
 use lib.ListN.{length, take, drop, get_or}
 use borrow.Author.Tests.{lt-ltb, ne_eqb}
+use Rattle.std.proofs.lemmas.Bool.{cond_both}
 use Rattle.refusal.specs.Chain.{require, passed, left_by}
 use Rattle.refusal.specs.Number.{refusal_plain}
 use Rattle.refusal.specs.declared.Reason.TheVariants.{Room}
@@ -47,16 +48,18 @@ all_take P zero rs a = tt
 all_take P (suc k) [] a = tt
 all_take P (suc k) (r ∷ rs) a = (a.0, all_take P k rs a.1)
 
+-- what is so of what a call leads to, where nothing is refused, and of what stood before it is so of what is left
+either : {X : Type 0} (P : X → Type 0) (o : Option Refusal) (new old : X) → (o ≡ none → P new) → P old → P (left_by o new old)
+either P none new old f p = f refl
+either P (some why) new old f p = p
+
 module _ (P : List ℕ → Type 0) where
   pub edit-holds : (item : ℕ) (bytes : List ℕ) (m : Model) → (item_refusal item bytes ≡ none → P m.present → P (put_item item (clean_of item bytes) m.present))
       → Holds P m → Holds P (edit_m item bytes m)
   unfolding edit_m
-  edit-holds item bytes m f h = by (item_refusal item bytes) (λ e. f e h.present)
-    where
-      by : (o : Option Refusal) → (o ≡ none → P (put_item item (clean_of item bytes) m.present))
-          → Holds P (left_by o (record { present = put_item item (clean_of item bytes) m.present; earlier = take depth (m.present ∷ m.earlier); sends = m.sends }) m)
-      by none g = record { present = g refl; earlier = all_take P depth (m.present ∷ m.earlier) (h.present, h.earlier) }
-      by (some why) g = h
+  edit-holds item bytes m f h =
+      either (Holds P) (item_refusal item bytes) _ m
+      (λ e. record { present = f e h.present; earlier = all_take P depth (m.present ∷ m.earlier) (h.present, h.earlier) }) h
 
   pub undo-holds : (m : Model) → Holds P m → Holds P (undo_to m.earlier m)
   undo-holds m h = by m.earlier h.earlier
@@ -67,11 +70,7 @@ module _ (P : List ℕ → Type 0) where
 
   pub send-holds : (room : ℕ) (m : Model) → Holds P m → Holds P (send_m room m)
   unfolding send_m
-  send-holds room m h = by (eqb room 262)
-    where
-      by : (t : Bool) → Holds P (cond t (record { present = m.present; earlier = m.earlier; sends = m.sends + 1 }) m)
-      by true = record { present = h.present; earlier = h.earlier }
-      by false = h
+  send-holds room m h = cond_both (eqb room 262) _ m (Holds P) (λ e. record { present = h.present; earlier = h.earlier }) (λ e. h)
 
 -- ---- a desk that stands for a history
 
@@ -239,22 +238,13 @@ undo-edit d m s item bytes a =
 -- an undo never moves the index, whatever the desk
 pub undo-index : (d : Desk) → (undone d).desk.ci ≡ d.ci
 unfolding undone
-undo-index d = by (undo_refusal d) _ refl
-  where
-    by : (o : Option Refusal) (new : Desk) → new.ci ≡ d.ci → (left_by o new d).ci ≡ d.ci
-    by none next e = e
-    by (some why) next e = refl
+undo-index d = either (λ (x : Desk). x.ci ≡ d.ci) (undo_refusal d) _ d (λ e. refl) refl
 
 -- ---- the number of sends: an edit and an undo leave it, a send into room for its words is one more, into any other room none
 
 pub edit-sends : (item : ℕ) (bytes : List ℕ) (m : Model) → (edit_m item bytes m).sends ≡ m.sends
 unfolding edit_m
-edit-sends item bytes m = by (item_refusal item bytes)
-  where
-    by : (o : Option Refusal)
-        → (left_by o (record { present = put_item item (clean_of item bytes) m.present; earlier = take depth (m.present ∷ m.earlier); sends = m.sends }) m).sends ≡ m.sends
-    by none = refl
-    by (some why) = refl
+edit-sends item bytes m = either (λ (x : Model). x.sends ≡ m.sends) (item_refusal item bytes) _ m (λ e. refl) refl
 
 pub undo-sends : (rs : List (List ℕ)) (m : Model) → (undo_to rs m).sends ≡ m.sends
 undo-sends [] m = refl
