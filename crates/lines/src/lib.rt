@@ -13,6 +13,7 @@ use reading::Packet;
 use refusal::Refusal;
 
 // A line of three numbers.
+#[tactic(auto, using(crate::proofs::Laws::Page::parts_written), unfolding(crate::specs::Shown::three_line))]
 fn write_three(page: &mut Page, word: &[u8], a: u16, b: u16, c: u16)
     ensures { page.new ≡ written page.old (three_line word.now a b c) }
 {
@@ -61,6 +62,7 @@ fn write_packet(page: &mut Page, packet: Packet)
 }
 
 // An item's number and its record bytes.
+#[tactic(auto, using(crate::proofs::Laws::Page::parts_written), unfolding(crate::specs::Shown::item_line))]
 fn write_item(page: &mut Page, number: u8, rec: &[u8])
     ensures { page.new ≡ written page.old (item_line rec.now number) }
 {
@@ -70,6 +72,7 @@ fn write_item(page: &mut Page, number: u8, rec: &[u8])
 }
 
 // The thirteen items.
+#[tactic(auto, using(crate::proofs::Laws::Shown::items_written))]
 fn write_items(page: &mut Page, rec: &[u8])
     ensures { page.new ≡ written page.old (item_lines numbers rec.now) }
 {

@@ -36,6 +36,7 @@ impl Page {
     }
 
     // Text more.
+    #[tactic(auto, using(crate::proofs::Laws::Page::text_written))]
     pub(crate) fn write(&mut self, text: &[u8])
         ensures { self.new ≡ written self.old text.now }
     {
@@ -45,6 +46,7 @@ impl Page {
     }
 
     // A number in decimal.
+    #[tactic(auto, using(crate::proofs::Laws::Page::digits_written))]
     pub(crate) fn write_number(&mut self, n: u16)
         ensures { self.new ≡ written self.old (decimal n) }
     {
@@ -67,6 +69,7 @@ impl Page {
     }
 
     // Bytes in hexadecimal, each with a space in front.
+    #[tactic(auto, using(crate::proofs::Laws::Page::bytes_written))]
     pub(crate) fn write_bytes(&mut self, bytes: &[u8])
         ensures { self.new ≡ written self.old (hex_bytes bytes.now) }
     {

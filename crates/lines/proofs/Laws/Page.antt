@@ -19,6 +19,9 @@ unfolding written
 written-append p [] b = refl
 written-append p (c ∷ a) b = written-append (pushed p c) a b
 
+-- what writes a line in parts
+pub ruleset parts_written = (written-append)
+
 -- the character at i, and then the rest
 pub write_step : (p : Page) (text : List ℕ) (i : ℕ) → i < length text → written p (drop i text) ≡ written (pushed p (get_or text i 0)) (drop (i + 1) text)
 unfolding written
@@ -27,6 +30,9 @@ write_step p text i h = rw (add-one, drop-cons text i 0 h)
 pub write-end : (p : Page) (text : List ℕ) (i : ℕ) → length text ≤ i → written p (drop i text) ≡ p
 unfolding written
 write-end p text i h = rw (drop_of_length-le text h)
+
+-- a loop over text
+pub ruleset text_written = (write_step, write-end)
 
 -- the byte at i, and then the rest
 pub hex-step : (p : Page) (l : List ℕ) (i : ℕ) → i < length l
@@ -38,6 +44,9 @@ pub hex-end : (p : Page) (l : List ℕ) (i : ℕ) → length l ≤ i → written
 unfolding written hex_bytes
 hex-end p l i h = rw (drop_of_length-le l h)
 
+-- a loop over bytes
+pub ruleset bytes_written = (hex-step, hex-end)
+
 -- five digits, from the first that counts on
 pub decimal-part : (n k a b c d e : ℕ) → k ≡ leading n → a ≡ digit (n / 10000 % 10) → b ≡ digit (n / 1000 % 10) → c ≡ digit (n / 100 % 10) → d ≡ digit (n / 10 % 10)
     → e ≡ digit (n % 10) → k ≤ 4 → take (5 - k) (drop k (a ∷ b ∷ c ∷ d ∷ e ∷ [])) ≡ decimal n
@@ -46,6 +55,9 @@ decimal-part n k a b c d e ek ea eb ec ed ee h =
     let l : List ℕ = a ∷ b ∷ c ∷ d ∷ e ∷ [] in
     take_all (5 - k) (drop k l) (omega (arith, length-drop k l))
     ∙ (λ i. drop (ek i) (ea i ∷ eb i ∷ ec i ∷ ed i ∷ ee i ∷ []))
+
+-- a number by its digits
+pub ruleset digits_written = (decimal-part)
 
 -- ---- what is written lies within the places
 

@@ -64,6 +64,9 @@ pub items-end : (p : Page) (rec : List ℕ) (n : ℕ) → 13 < n → written p (
 unfolding item_lines written
 items-end p rec n h = rw (drop_of_length-le numbers {i = n - 1} (omega (arith, thirteen)))
 
+-- a loop over the items
+pub ruleset items_written = (items-step, items-end)
+
 -- ---- a field, by what unpacking and reading answered and left
 
 answered : {A : Type 0} (o : Option Refusal) (x y : A) → Ok x ≡ answer_of o y → (o ≡ none) × (x ≡ y)
