@@ -1,11 +1,23 @@
 // A place in a block, and an error there.
-ghost use Rattle.std.specs.Prelude.{◌<◌};
+ghost use Rattle.std.specs.Prelude.{◌≡◌, ◌<◌};
+ghost use Rattle.gf256.specs.Field.{pow};
+
+use gf256::Tables;
 
 // A place, by its exponent k: it is the field's element 2^k, from 253 for the first byte to 0 for the last.
 #[derive(Clone, Copy)]
 pub(crate) struct Place {
     pub(crate) exponent: usize,
     ghost within: { exponent < 254 },
+}
+
+impl Place {
+    // The field's element that it is.
+    pub(crate) fn element(self, tables: &Tables) -> u8
+        ensures { result ≡ pow 2 self.exponent }
+    {
+        tables.wheel()[self.exponent]
+    }
 }
 
 // A value at a place; a value of 0 is no error.

@@ -172,7 +172,7 @@ pub(crate) fn two_errors(tables: &Tables, s: [u8; 6], n: usize) -> Option<[Error
         return None;
     }
     let first = top_root(tables, l)?;
-    let z = gf256::sum(tables.power(first.exponent), l.a);
+    let z = gf256::sum(first.element(tables), l.a);
     let second = place_of(tables, z)?;
     let y = tables.quotient(plus_times(tables, s[1], z, s[0]), l.a);
     Some([
@@ -192,14 +192,14 @@ pub(crate) fn three_errors(tables: &Tables, s: [u8; 6]) -> Option<[Error; 3]>
     ensures { FindsThree s result }
 {
     let first = top_root(tables, locator_three(tables, s))?;
-    let x = tables.power(first.exponent);
+    let x = first.element(tables);
     let mut rest = s;
     kill(tables, &mut rest, x);
     let left = two_errors(tables, rest, 5)?;
     let second = left[0].place;
     let third = left[1].place;
-    let y = tables.quotient(left[0].value, gf256::sum(x, tables.power(second.exponent)));
-    let z = tables.quotient(left[1].value, gf256::sum(x, tables.power(third.exponent)));
+    let y = tables.quotient(left[0].value, gf256::sum(x, second.element(tables)));
+    let z = tables.quotient(left[1].value, gf256::sum(x, third.element(tables)));
     Some([
         Error {
             place: first,
@@ -233,7 +233,7 @@ pub(crate) fn power_sums(tables: &Tables, errors: &[Error]) -> [u8; 6]
 {
     let mut sums = [0; 6];
     for e in errors {
-        add_part(tables, &mut sums, tables.power(e.place.exponent), e.value);
+        add_part(tables, &mut sums, e.place.element(tables), e.value);
     }
     sums
 }

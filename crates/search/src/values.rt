@@ -22,7 +22,7 @@ pub(crate) fn kill_places(tables: &Tables, s: [u8; 6], places: [Place; 6], n: us
     let mut left = s;
     for i in 0..n {
         firsts[i] = left[0];
-        solver::kill(tables, &mut left, tables.power(places[i].exponent));
+        solver::kill(tables, &mut left, places[i].element(tables));
     }
     Killed { firsts, left }
 }
@@ -43,7 +43,7 @@ fn unscale(tables: &Tables, x: u8, places: [Place; 6], v: &mut [u8; 6])
     ensures { Unscaled 6 x (exponents places) v.old v.new }
 {
     for i in 0..6 {
-        v[i] = tables.quotient(v[i], gf256::sum(tables.power(places[i].exponent), x));
+        v[i] = tables.quotient(v[i], gf256::sum(places[i].element(tables), x));
     }
 }
 
@@ -56,7 +56,7 @@ pub(crate) fn values(tables: &Tables, s: [u8; 6], places: [Place; 6], n: usize) 
     let firsts = kill_places(tables, s, places, n).firsts;
     let mut v = [0; 6];
     for i in (0..n).rev() {
-        unscale(tables, tables.power(places[i].exponent), places, &mut v);
+        unscale(tables, places[i].element(tables), places, &mut v);
         v[i] = gf256::sum(firsts[i], sum_of(v));
     }
     v

@@ -14,7 +14,7 @@ loop-e-init c = let none : List ℕ = replicate 6 0 in summing-none c.args.error
 pub loop-e-preserved : goal.loop-e-preserved
 loop-e-preserved c =
     let l = c.loop-e in
-    summing-more c.args.errors.now l.sums c.add_part.new.sums l.e-index _ c.e-item.result (omega arith) l.invariant c.e-item.is c.power.ensures c.add_part.ensures
+    summing-more c.args.errors.now l.sums c.add_part.new.sums l.e-index _ c.e-item.result (omega arith) l.invariant c.e-item.is c.element.ensures c.add_part.ensures
 
 pub returns : goal.returns
 returns c = let l = c.loop-e in summing-all c.args.errors.now l.sums l.e-index (omega arith) l.invariant

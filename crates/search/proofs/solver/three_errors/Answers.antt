@@ -21,7 +21,7 @@ returns-in_err-left c =
     (not_three c.args.s
     (λ k y m z i w hk hm hi py hy pz hz pw hw E.
     let top = top-three k y m z i w _ hk hm hi py hy pz hz pw hw E _ c.locator_three.ensures _ c.in_ok-first.ensures in
-    no-two-left k y m z i w _ hk hm hi py hy pz hz pw hw E _ top _ c.power-x.ensures _ c.kill.ensures c.in_err-left.ensures))
+    no-two-left k y m z i w _ hk hm hi py hy pz hz pw hw E _ top _ c.element-x.ensures _ c.kill.ensures c.in_err-left.ensures))
 
 pub returns : goal.returns
 returns c =
@@ -31,14 +31,14 @@ returns c =
       finds = λ k y m z i w hk hm hi py hy pz hz pw hw E.
           let top = top-three k y m z i w _ hk hm hi py hy pz hz pw hw E _ c.locator_three.ensures _ c.in_ok-first.ensures in
           let F = c.in_ok-left.ensures in
-          let second = second-place k y m z i w _ hk hm hi py hy pz hz pw hw E _ top _ c.power-x.ensures _ c.kill.ensures left F two c.index-left-0.result in
-          let third = third-place k y m z i w _ hk hm hi py hy pz hz pw hw E _ top _ c.power-x.ensures _ c.kill.ensures left F two c.index-left-1.result in
-          let b = second-value k y m z i w _ hk hm hi py hy pz hz pw hw E _ top _ c.power-x.ensures _ c.kill.ensures left F two _ _ _ _ second
-          (c.sum.ensures ∙ ap (◌⊕◌ c.power-x.result) c.power.ensures) c.quotient-y.ensures in
-          let d = third-value k y m z i w _ hk hm hi py hy pz hz pw hw E _ top _ c.power-x.ensures _ c.kill.ensures left F two _ _ _ _ third
-          (c.sum-2.ensures ∙ ap (◌⊕◌ c.power-x.result) c.power-2.ensures) c.quotient-z.ensures in
+          let second = second-place k y m z i w _ hk hm hi py hy pz hz pw hw E _ top _ c.element-x.ensures _ c.kill.ensures left F two c.index-left-0.result in
+          let third = third-place k y m z i w _ hk hm hi py hy pz hz pw hw E _ top _ c.element-x.ensures _ c.kill.ensures left F two c.index-left-1.result in
+          let b = second-value k y m z i w _ hk hm hi py hy pz hz pw hw E _ top _ c.element-x.ensures _ c.kill.ensures left F two _ _ _ _ second
+          (c.sum.ensures ∙ ap (◌⊕◌ c.element-x.result) c.element.ensures) c.quotient-y.ensures in
+          let d = third-value k y m z i w _ hk hm hi py hy pz hz pw hw E _ top _ c.element-x.ensures _ c.kill.ensures left F two _ _ _ _ third
+          (c.sum-2.ensures ∙ ap (◌⊕◌ c.element-x.result) c.element-2.ensures) c.quotient-z.ensures in
           record {
             places = same-cons top (same-cons second (same-cons third refl));
-            values = same-cons (first-value k y m z i w _ hk hm hi py hy pz hz pw hw E _ top _ c.power-x.ensures _ c.kill.ensures _ _ _ b d c.sum3.ensures) (same-cons b (same-cons d refl));
+            values = same-cons (first-value k y m z i w _ hk hm hi py hy pz hz pw hw E _ top _ c.element-x.ensures _ c.kill.ensures _ _ _ b d c.sum3.ensures) (same-cons b (same-cons d refl));
           };
     }

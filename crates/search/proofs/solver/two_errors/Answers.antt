@@ -29,7 +29,7 @@ returns-in_err-second c =
     (λ k y m z hk hm py hy pz hz E.
     let top = top-two _ k y m z _ hk hm py hy pz hz c.requires.0 E _ l.ensures _ c.in_ok-first.ensures in
     c.in_err-second.ensures.at m (omega arith)
-    (other-two _ k y m z _ hk hm py hy pz hz c.requires.0 E _ l.ensures _ _ top (c.sum-z.ensures ∙ ap (λ (p : ℕ). p ⊕ l.result.a) c.power.ensures))))
+    (other-two _ k y m z _ hk hm py hy pz hz c.requires.0 E _ l.ensures _ _ top (c.sum-z.ensures ∙ ap (λ (p : ℕ). p ⊕ l.result.a) c.element.ensures))))
 
 pub returns : goal.returns
 returns c =
@@ -37,7 +37,7 @@ returns c =
     record {
       finds = λ k y m z hk hm py hy pz hz E.
           let top = top-two _ k y m z _ hk hm py hy pz hz c.requires.0 E _ l.ensures _ c.in_ok-first.ensures in
-          let other = other-two _ k y m z _ hk hm py hy pz hz c.requires.0 E _ l.ensures _ _ top (c.sum-z.ensures ∙ ap (λ (p : ℕ). p ⊕ l.result.a) c.power.ensures) in
+          let other = other-two _ k y m z _ hk hm py hy pz hz c.requires.0 E _ l.ensures _ _ top (c.sum-z.ensures ∙ ap (λ (p : ℕ). p ⊕ l.result.a) c.element.ensures) in
           let value = value-two _ k y m z _ hk hm py hy pz hz c.requires.0 E _ l.ensures _ _ _ other c.plus_times.ensures c.quotient-y.ensures in
           record {
             places = same-cons top (same-cons (c.in_ok-second.ensures.at m (omega arith) other) refl);

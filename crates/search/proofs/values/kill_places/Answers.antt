@@ -17,7 +17,7 @@ loop-i-preserved c =
     let ps = c.args.places in
     let n : length c.args.places ≡ 6 = search rules in
     killing-more c.args.n (exponents ps) c.args.s l.firsts l.left _ l.i _ l.invariant c.loop-i-test.true c.requires (exponents-long ps ∙ n)
-    (c.power.ensures ∙ ap (pow 2) (exponent-at ps l.i _ (search rules))) c.kill.ensures
+    (c.element.ensures ∙ ap (pow 2) (exponent-at ps l.i _ (search rules))) c.kill.ensures
 
 pub returns : goal.returns
 returns c = let l = c.loop-i in killing-all c.args.n (exponents c.args.places) c.args.s l.firsts l.left l.i l.invariant c.loop-i-test.false

@@ -19,7 +19,7 @@ loop-i-preserved c =
     let ps = c.args.places in
     unscaled-more l.i c.args.x (exponents ps) c.args.v.now l.v _ (search rules) l.invariant
     (c.quotient.ensures
-    ∙ ap (over (get_or l.v l.i 0)) (c.sum.ensures ∙ ap (λ (p : ℕ). p ⊕ c.args.x) (c.power.ensures ∙ ap (pow 2) (exponent-at ps l.i _ (search rules)))))
+    ∙ ap (over (get_or l.v l.i 0)) (c.sum.ensures ∙ ap (λ (p : ℕ). p ⊕ c.args.x) (c.element.ensures ∙ ap (pow 2) (exponent-at ps l.i _ (search rules)))))
 
 pub returns : goal.returns
 returns c =

@@ -25,7 +25,7 @@ loop-i-preserved c =
     let six : length (exponents ps) ≡ 6 = exponents-long ps ∙ n in
     let e : l.i ≡ suc m = omega arith in
     λ s F.
-    valued-more c.args.n s (exponents ps) l.v c.unscale.new.v m _ (omega arith) (omega arith) (c.power.ensures ∙ ap (pow 2) (exponent-at ps m _ (omega arith)))
+    valued-more c.args.n s (exponents ps) l.v c.unscale.new.v m _ (omega arith) (omega arith) (c.element.ensures ∙ ap (pow 2) (exponent-at ps m _ (omega arith)))
     (unscaled-all 6 _ (exponents ps) l.v c.unscale.new.v (v ∙ sym six) (omega arith) c.unscale.ensures)
     (subst (Valued c.args.n s (exponents ps) l.v) e (l.invariant s F)) c.kill_places.result.firsts _ _ F c.sum_of.ensures c.sum.ensures
 
