@@ -8,7 +8,7 @@ use Rattle.std.specs.Prelude.{Option as Given, Some, None}
 use Rattle.std.specs.Option.{MatchOption}
 use Rattle.gf256.specs.Field.{pow}
 use Rattle.gf256.proofs.Laws.Product.{pow_pos, pow-inj}
-use Rattle.promises.specs.Only.{OneAnswer, OnePart, SameOutcome, OneOutcome}
+use Rattle.promises.specs.Only.{OneAnswer, OnePart, OneList, SameOutcome, OneOutcome}
 use Rattle.gf256.proofs.Laws.Tables.{powers-unique, logs-unique}
 use Rattle.gf256.proofs.Laws.Lent.{wheel-unique}
 use Rattle.refusal.proofs.U8FromReason.from.Kinds as number-types
@@ -77,6 +77,8 @@ use Rattle.gf256.proofs.Tables.power.Kinds as tables-power-types
 use Rattle.gf256.proofs.Tables.power.Reads as tables-power-contract
 use Rattle.gf256.proofs.Tables.on_wheel.Kinds as tables-on-wheel-types
 use Rattle.gf256.proofs.Tables.on_wheel.Reads as tables-on-wheel-contract
+use Rattle.gf256.proofs.Tables.wheel.Kinds as tables-wheel-types
+use Rattle.gf256.proofs.Tables.wheel.Reads as tables-wheel-contract
 use Rattle.gf256.proofs.Tables.log.Kinds as tables-log-types
 use Rattle.gf256.proofs.Tables.log.Reads as tables-log-contract
 use Rattle.rs.proofs.divisor.Kinds as divisor-types
@@ -314,6 +316,9 @@ tables-power κs i a b s t p q = p ∙ sym q
 
 pub tables-on-wheel : OneAnswer 1 tables-on-wheel-types.ps tables-on-wheel-types.r tables-on-wheel-contract.Learnt
 tables-on-wheel κs i a b s t p q = p ∙ sym q
+
+pub tables-wheel : OneList 1 tables-wheel-types.ps tables-wheel-types.r (λ κs a. a.now) tables-wheel-contract.Learnt
+tables-wheel κs i a b s t p q = wheel-unique a.now b.now p q
 
 -- no two powers of 2 below 255 are one byte, and none is 0
 one-log : (a : ℕ) (x y : Given ℕ) → MatchOption x (a ≡ 0) (λ k. (k < 255) × (pow 2 k ≡ a)) → MatchOption y (a ≡ 0) (λ k. (k < 255) × (pow 2 k ≡ a)) → x ≡ y
