@@ -135,7 +135,7 @@ impl Desk {
     }
 }
 
-// What a desk opens with, stored over zeros.
+// What a desk opens with, stored over zeros. Six lines and no loop over a table: each line is computed, where a loop would ask for an invariant.
 #[tactic(auto, unfolding(record::specs::Stored::store_refusal, record::specs::Stored::store_leaves, items::specs::Item::item_refusal, items::specs::Item::refused_in, items::specs::Item::row_of, items::specs::Items::items, items::specs::Item::put, items::specs::Item::clean_in, items::specs::Item::clean_of, items::specs::Item::put_in, items::specs::Item::put_item, rules::specs::Rules::station_rule, rules::specs::Rules::station_byte, rules::specs::Rules::time_rule, rules::specs::Rules::time_byte, rules::specs::Rules::decimal, basics::specs::Each::all, crate::specs::Desk::opening))]
 fn opening() -> [u8; 248]
     ensures { result ≡ opening }
