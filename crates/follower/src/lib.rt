@@ -1,9 +1,12 @@
 // The follower: the receiver's two records and counts. Each packet is the first one, the next one, a repeat or a conflict, or it is refused.
 #![tactic(auto)]
 
-ghost use Rattle.std.specs.Prelude.{◌≡◌, length};
+ghost use Rattle.std.specs.Prelude.{◌≡◌, cond, length};
+ghost use Rattle.basics.specs.Each.{same};
+ghost use Rattle.sequence.specs.declared.Kind.TheVariants.{Repeat};
+ghost use Rattle.sequence.specs.Sequence.{kind_of};
 ghost use Rattle.refusal.specs.Checked.{checked_of};
-ghost use Rattle.follower.specs.Follower.{before_again, arrived_as, arrival_of, held_by, follower_after, accepts, refused_after, followed, opened, shown_by, shown_refusal, shown_leaves};
+ghost use Rattle.follower.specs.Follower.{step_to, before_again, held_by, follower_after, accepts, refused_after, followed, opened, shown_by, shown_refusal, shown_leaves};
 
 use reading::Packet;
 use refusal::{Reason, Refusal};
@@ -144,13 +147,22 @@ impl Follower {
         Ok(())
     }
 
-    // What follows on a packet that is accepted.
-    #[tactic(auto, unfolding(crate::specs::Follower::accepts))]
+    // What follows on a packet that is accepted: what it brings is told against the record at the position.
+    #[tactic(auto, unfolding(crate::specs::Follower::accepts, crate::specs::Follower::arrived_as, crate::specs::Follower::arrival_of, crate::specs::Follower::step_to))]
     fn accept(self, packet: Packet, arrived: [u8; 248]) -> Followed
         ensures { result ≡ accepts self packet arrived }
     {
         let again = self.before_again(packet, arrived);
-        let arrival = self.arrival(packet, again, arrived);
+        let kind = self.kind(packet, again, arrived);
+        let step = sequence::step_of(self.held.ci, packet.ci);
+        let old = self.held.at;
+        let arrival = Arrival {
+            kind,
+            ci: packet.ci,
+            fixed: packet.fixed,
+            missed: sequence::missed_of(kind, step),
+            onsets: onsets::onsets(self.started && !again, &old, &arrived),
+        };
         Followed {
             follower: self.hold(arrival, again, arrived),
             heard: Ok(arrival),
@@ -169,34 +181,15 @@ impl Follower {
     }
 
     // The packet's kind; `again` says whether it is the one before.
-    #[tactic(auto, using(crate::proofs::Laws::Again::equal_lists), unfolding(crate::specs::Follower::arrived_as, crate::specs::Follower::step_to))]
+    #[tactic(auto, using(crate::proofs::Laws::Again::equal_lists), unfolding(crate::specs::Follower::step_to))]
     fn kind(self, packet: Packet, again: bool, arrived: [u8; 248]) -> Kind
-        requires { again ≡ before_again self packet arrived }
-        ensures { result ≡ arrived_as self packet arrived }
+        ensures { result ≡ cond again Repeat (kind_of self.started (step_to self packet) (same self.held.at arrived)) }
     {
         if again {
             return Kind::Repeat;
         }
         let step = sequence::step_of(self.held.ci, packet.ci);
         sequence::kind_of(self.started, step, self.held.at == arrived)
-    }
-
-    // What the packet brings, against the record at the position.
-    #[tactic(auto, unfolding(crate::specs::Follower::arrival_of, crate::specs::Follower::step_to))]
-    fn arrival(self, packet: Packet, again: bool, arrived: [u8; 248]) -> Arrival
-        requires { again ≡ before_again self packet arrived }
-        ensures { result ≡ arrival_of self packet arrived }
-    {
-        let old = self.held.at;
-        let kind = self.kind(packet, again, arrived);
-        let step = sequence::step_of(self.held.ci, packet.ci);
-        Arrival {
-            kind,
-            ci: packet.ci,
-            fixed: packet.fixed,
-            missed: sequence::missed_of(kind, step),
-            onsets: onsets::onsets(self.started && !again, &old, &arrived),
-        }
     }
 
     // The arrival is counted, and its record held and shown.
