@@ -9,7 +9,7 @@ mod power_table;
 ghost use Rattle.std.specs.Prelude.{◌≡◌, ◌<◌, ◌≤◌, MatchOption};
 ghost use Rattle.gf256.specs.Field.{◌⊕◌, ◌⊗◌, pow, over};
 ghost use Rattle.gf256.specs.Tables.{PowerTable, LogTable};
-ghost use Rattle.gf256.specs.Lent.{Wheel, on_wheel, log_in, product_in, quotient_in};
+ghost use Rattle.gf256.specs.Lent.{Wheel, log_in, product_in, quotient_in};
 
 // The powers of 2 from 0 to 254.
 pub fn powers() -> [u8; 255]
@@ -111,14 +111,8 @@ impl Tables {
         self.wheel[k % 255]
     }
 
-    // The power of 2 once more, and 0 from 510 on: with 510 for the logarithm of 0, what stands at the sum of two is the product.
-    pub fn on_wheel(&self, k: usize) -> u8
-        ensures { result ≡ on_wheel k }
-    {
-        if k < 1021 { self.wheel[k] } else { 0 }
-    }
-
-    // The wheel itself, for code that looks at many of its places and knows that they are on it: `on_wheel` tests each.
+    // The wheel itself, for code that looks at many of its places and knows that they are on it: with 510 for the logarithm of 0, what stands at the sum of two is the
+    // product. A call for each place would have to test it, which costs a third of a repair.
     pub fn wheel(&self) -> &[u8; 1021]
         ensures { Wheel result.now }
     {

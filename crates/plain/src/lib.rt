@@ -40,6 +40,7 @@ fn mend(block: &mut [u8], errors: [Error; 3])
 }
 
 // The first errors that have the six sums, of those at no place, at one, at two and at three.
+// One `if let` behind the other, and no `or_else`: what a closure promises did not reach the proof.
 fn first_places(tables: &Tables, s: [u8; 6]) -> Option<[Error; 3]>
     ensures { Settles (First s) ((n : ℕ) → n ≤ 3 → NoneFrom n 0 [] s) s result }
 {

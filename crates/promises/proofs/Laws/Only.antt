@@ -75,8 +75,6 @@ use Rattle.gf256.proofs.Tables.quotient.Kinds as tables-quotient-types
 use Rattle.gf256.proofs.Tables.quotient.Reads as tables-quotient-contract
 use Rattle.gf256.proofs.Tables.power.Kinds as tables-power-types
 use Rattle.gf256.proofs.Tables.power.Reads as tables-power-contract
-use Rattle.gf256.proofs.Tables.on_wheel.Kinds as tables-on-wheel-types
-use Rattle.gf256.proofs.Tables.on_wheel.Reads as tables-on-wheel-contract
 use Rattle.gf256.proofs.Tables.wheel.Kinds as tables-wheel-types
 use Rattle.gf256.proofs.Tables.wheel.Reads as tables-wheel-contract
 use Rattle.gf256.proofs.Tables.log.Kinds as tables-log-types
@@ -313,9 +311,6 @@ tables-quotient κs i a b s t p q = p ∙ sym q
 
 pub tables-power : OneAnswer 1 tables-power-types.ps tables-power-types.r tables-power-contract.Learnt
 tables-power κs i a b s t p q = p ∙ sym q
-
-pub tables-on-wheel : OneAnswer 1 tables-on-wheel-types.ps tables-on-wheel-types.r tables-on-wheel-contract.Learnt
-tables-on-wheel κs i a b s t p q = p ∙ sym q
 
 pub tables-wheel : OneList 1 tables-wheel-types.ps tables-wheel-types.r (λ κs a. a.now) tables-wheel-contract.Learnt
 tables-wheel κs i a b s t p q = wheel-unique a.now b.now p q
