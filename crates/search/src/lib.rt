@@ -44,7 +44,7 @@ pub fn repair_marked(block: &mut [u8], words: &[u16]) -> Result<(), Refusal>
         return Ok(());
     }
     refusal::require(
-        mend_marked(block, rest, words),
+        mend_marked(block, rest, words.try_into().unwrap()),
         refusal::plain(Reason::BeyondRepair),
     )
 }
@@ -108,8 +108,8 @@ fn mend_marks(block: &mut [u8], rest: [u8; 6], marks: marked::Marks) -> bool
 }
 
 // Repairs a block that is no codeword, by what the division left of it and by the places that the words mark: with one to six of them first by these.
-fn mend_marked(block: &mut [u8], rest: [u8; 6], words: &[u16]) -> bool
-    requires { Damaged block.old rest × (length words.now ≡ 254) }
+fn mend_marked(block: &mut [u8], rest: [u8; 6], words: &[u16; 254]) -> bool
+    requires { Damaged block.old rest }
     ensures { (result ≡ repairable_marked (confessed words.now) block.old) × (block.new ≡ repaired_marked (confessed words.now) block.old) }
 {
     let marks = marked::marks_of(words);

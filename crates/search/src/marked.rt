@@ -1,5 +1,5 @@
 // The search for errors where some places are marked: the marked places, the others in which there can be errors, and the errors at all of them.
-ghost use Rattle.std.specs.Prelude.{◌≡◌, map, ◌<◌, ◌≤◌, length};
+ghost use Rattle.std.specs.Prelude.{◌≡◌, map, ◌<◌, ◌≤◌};
 ghost use Rattle.search.specs.Marked.{confessed};
 ghost use Rattle.search.specs.SearchMarked.{flag_of, marks_by, MarksOf, OneMore, Locates, SolvedMarked};
 
@@ -22,8 +22,7 @@ fn flag(word: u16) -> u8
 }
 
 // The flag of each word. With no early return, so that the words can be taken many at a time.
-fn flags(words: &[u16], out: &mut [u8; 254])
-    requires { length words.now ≡ 254 }
+fn flags(words: &[u16; 254], out: &mut [u8; 254])
     ensures { out.new ≡ map flag_of words.now }
 {
     for (i, word) in words.iter().enumerate() {
@@ -49,8 +48,7 @@ fn collect(flags: &[u8; 254]) -> Marks
 }
 
 // The places that the words mark.
-pub(crate) fn marks_of(words: &[u16]) -> Marks
-    requires { length words.now ≡ 254 }
+pub(crate) fn marks_of(words: &[u16; 254]) -> Marks
     ensures { MarksOf (confessed words.now) result }
 {
     let mut raised = [0; 254];

@@ -1,6 +1,8 @@
 -- `search::mend_marked` meets its contract: the first rule answers where there is a codeword by it, and else the second does.
 -- Assumes nothing.
-use mathlib.Core.Path.{ap, ◌∙◌}
+use borrow.Author.Rules.{rules}
+use mathlib.Core.Path.{◌≡◌, ap, ◌∙◌}
+use lib.ListN.{length}
 use native.Mathlib.Omega.{arith}
 use Rattle.rs.specs.Decode.{repairable, repaired}
 use Rattle.rs.proofs.Laws.Marked.{both-unmarked, none_both}
@@ -26,15 +28,17 @@ returns-then-f-gt6 c =
 pub returns-then-mend_marks : goal.returns-then-mend_marks
 returns-then-mend_marks c =
     let marks = confessed c.args.words.now in
+    let long : length c.args.words.now ≡ 254 = search rules in
     let A = first-answer marks c.args.block.now _
-    (c.mend_marks.ensures.found c.if-mend_marks.true marks (confessed-length c.args.words.now ∙ c.requires.1) c.marks_of-marks.ensures) in
+    (c.mend_marks.ensures.found c.if-mend_marks.true marks (confessed-length c.args.words.now ∙ long) c.marks_of-marks.ensures) in
     (A.said, A.left)
 
 pub returns : goal.returns
 returns c =
     let marks = confessed c.args.words.now in
+    let long : length c.args.words.now ≡ 254 = search rules in
     let l = c.args.block.now in
     let kept = c.mend_marks.ensures.kept c.if-mend_marks.false in
-    let none = c.mend_marks.ensures.lost c.if-mend_marks.false marks (confessed-length c.args.words.now ∙ c.requires.1) c.marks_of-marks.ensures in
+    let none = c.mend_marks.ensures.lost c.if-mend_marks.false marks (confessed-length c.args.words.now ∙ long) c.marks_of-marks.ensures in
     let A = second-answer marks l (none_both marks l none) _ _ (c.mend-2.ensures.0 ∙ ap repairable kept) (c.mend-2.ensures.1 ∙ ap repaired kept) in
     (A.said, A.left)

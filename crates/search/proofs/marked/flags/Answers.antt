@@ -20,5 +20,6 @@ loop-i-preserved c =
     let l = c.loop-i in
     let xs : List ℕ = c.args.words.now in
     let old : List ℕ = c.args.out.now in
+    let many : length c.args.words.now ≡ 254 = search rules in
     let room : length c.args.out.now ≡ 254 = search rules in
-    filling-more (map flag_of xs) old (long xs old c.requires room) l.out l.i _ l.invariant (omega arith) (flags-at xs l.i (omega arith) ∙ sym c.flag.ensures)
+    filling-more (map flag_of xs) old (long xs old many room) l.out l.i _ l.invariant (omega arith) (flags-at xs l.i (omega arith) ∙ sym c.flag.ensures)
