@@ -5,7 +5,7 @@ use Rattle.basics.specs.Below.{Below, Bytes}
 use Rattle.gf256.specs.Field.{◌⊕◌, pow}
 use Rattle.gf256.specs.PowerSum.{Term, power_sum}
 use Rattle.rs.specs.Polynomial.{value_at, zeros}
-use Rattle.plain.specs.declared.solver.Error.{Error}
+use Rattle.plain.specs.declared.errors.Error.{Error}
 
 -- the six sums of a block: its values at the powers 0 to 5 of 2
 abbrev pub Sums : List ℕ → List ℕ → Type 0

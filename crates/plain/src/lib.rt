@@ -3,17 +3,17 @@
 // It has the same contract.
 #![tactic(auto)]
 
+mod errors;
 mod solver;
 
 ghost use Rattle.std.specs.Prelude.{◌≡◌, [], ℕ, ◌≤◌, length};
-ghost use Rattle.basics.specs.Below.{Below};
 ghost use Rattle.rs.specs.Decode.{repaired, decode_refusal};
 ghost use Rattle.refusal.specs.Checked.{checked_of};
-ghost use Rattle.plain.specs.Plain.{NoneFrom, FirstOf, First, Settles, places_of, mended};
+ghost use Rattle.plain.specs.Plain.{NoneFrom, FirstOf, First, Settles, mended};
 
+use errors::Error;
 use gf256::Tables;
 use refusal::{Reason, Refusal};
-use solver::Error;
 
 // Repairs 254 delivered bytes in place: they become the codeword that differs from what was delivered in at most three bytes. A refusal,
 // of another number of bytes or since there is no such codeword, leaves them as they were.
@@ -31,7 +31,7 @@ pub fn repair(block: &mut [u8]) -> Result<(), Refusal>
 
 // Adds the errors to what was delivered: since a sum is a difference too, this takes them out.
 fn mend(block: &mut [u8], errors: [Error; 3])
-    requires { (length block.old ≡ 254) × Below 254 (places_of errors) }
+    requires { length block.old ≡ 254 }
     ensures { block.new ≡ mended block.old errors }
 {
     for e in errors {

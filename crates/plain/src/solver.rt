@@ -4,19 +4,12 @@
 // given places are solved for by killing the others. They are believed where they have all six sums. The tables of the field are lent by the caller.
 // `search` works out sums too, and shares none of this: it is held against what stands here.
 ghost use Rattle.std.specs.Prelude.{◌≡◌, [], ◌∷◌, ◌<◌};
-ghost use Rattle.basics.specs.Below.{Below};
 ghost use Rattle.gf256.specs.Field.{◌⊕◌, ◌⊗◌};
 ghost use Rattle.rs.specs.Polynomial.{value_at};
-ghost use Rattle.plain.specs.Plain.{Sums, element, Solves, Unexplained, Has, Judges, places_of, values_of, Stands, Settles};
+ghost use Rattle.plain.specs.Plain.{Sums, element, Solves, Unexplained, Has, Judges, values_of, Stands, Settles};
 
+use crate::errors::Error;
 use gf256::Tables;
-
-// A value at a place of the block; a value of 0 is no error.
-#[derive(Clone, Copy)]
-pub(crate) struct Error {
-    pub(crate) place: usize,
-    pub(crate) value: u8,
-}
 
 // The element of a place: the power of 2 that goes with its byte, 2^253 with the first and 1 with the last.
 fn element(tables: &Tables, i: usize) -> u8
@@ -90,7 +83,6 @@ fn values(errors: [Error; 3]) -> [u8; 3]
 // Do the errors have all six sums? In turn m, the parts are their values, each times its element to the power m.
 #[inline(always)]
 fn explained(tables: &Tables, s: [u8; 6], errors: [Error; 3]) -> bool
-    requires { Below 254 (places_of errors) }
     ensures { Judges s errors result }
 {
     let [d, e, f] = errors;
@@ -114,7 +106,6 @@ fn explained(tables: &Tables, s: [u8; 6], errors: [Error; 3]) -> bool
 // The errors, where they have all six sums.
 #[inline(always)]
 fn judged(tables: &Tables, s: [u8; 6], errors: [Error; 3]) -> Option<[Error; 3]>
-    requires { Below 254 (places_of errors) }
     ensures { Settles (λ es. es ≡ errors) (Has s errors → ⊥) s result }
 {
     explained(tables, s, errors).then_some(errors)

@@ -19,7 +19,7 @@ use Rattle.rs.proofs.Laws.Distance.{weight, terms, terms-sum, changes-weight, ch
 use Rattle.rs.proofs.Laws.Codeword.{codeword-vanishes, vanishing-codeword}
 use Rattle.rs.proofs.Laws.Decode.{Answer, some-answer, none-answer, decode-complete, decode-none}
 use Rattle.plain.specs.Plain.{Sums, element, terms_at, Unexplained, NoneFrom, places_of, values_of, Right, patched, mended}
-use Rattle.plain.specs.declared.solver.Error.{Error}
+use Rattle.plain.specs.declared.errors.Error.{Error}
 
 -- ---- bytes that are changed
 

@@ -20,7 +20,7 @@ use Rattle.gf256.proofs.Laws.Sum.{⊕-zero-l}
 use Rattle.gf256.proofs.Laws.Product.{⊗-zero-l}
 use Rattle.plain.specs.Plain.{element, terms_at, Explains, Solves, Unexplained, NoneFrom, FirstFrom, Has, Judges, places_of, Stands, FirstOf, First, Settles}
 use Rattle.plain.proofs.Laws.Solve.{one-solved}
-use Rattle.plain.specs.declared.solver.Error.{Error}
+use Rattle.plain.specs.declared.errors.Error.{Error}
 
 -- ---- one try
 
@@ -45,11 +45,16 @@ pub settles-so : (A C : List Error → Type 0) (B D : Type 0) (s : List ℕ) (o 
 settles-so A C B D s None f g S = g S
 settles-so A C B D s (Some es) f g S = (S.0, f es S.1)
 
+-- errors stand at places of the block
+placed : (es : List Error) → Below 254 (places_of es)
+placed [] = tt
+placed (e ∷ es) = (e.within, placed es)
+
 -- the test of the six sums settles whether the errors have them
-pub judged-settles : (s : List ℕ) (es : List Error) (r : Bool) → Below 254 (places_of es) → Judges s es r
+pub judged-settles : (s : List ℕ) (es : List Error) (r : Bool) → Judges s es r
     → Settles (λ l. l ≡ es) (Has s es → ⊥) s (then_some r es)
-judged-settles s es true h J = (record { below = h; sums = J.sound refl }, refl)
-judged-settles s es false h J = λ E. never (sym (J.complete E))
+judged-settles s es true J = (record { below = placed es; sums = J.sound refl }, refl)
+judged-settles s es false J = λ E. never (sym (J.complete E))
 
 -- no place, one place, two and three; where fewer than three are tried, errors of 0 stand before them
 module _ (s : List ℕ) (o : Option (List Error)) where
@@ -58,32 +63,32 @@ module _ (s : List ℕ) (o : Option (List Error)) where
       → Settles (Stands is) (Unexplained is s) s o
   tried is es S f = settles-so _ _ _ _ s o (λ l p. subst (Stands is) (sym p) S) f
 
-  abbrev at : ℕ → ℕ → Error
-  at i y = record { place = i; value = y }
+  abbrev at : (i : ℕ) → i < 254 → ℕ → Error
+  at i h y = record { place = i; value = y; within = h }
 
-  pub tried-none : (i : ℕ) → (let es : List Error = at i 0 ∷ at i 0 ∷ at i 0 ∷ [] in Settles (λ l. l ≡ es) (Has s es → ⊥) s o) → Settles (Stands []) (Unexplained [] s) s o
-  tried-none i =
-      tried [] (at i 0 ∷ at i 0 ∷ at i 0 ∷ []) (record { places = refl; idle = refl }) (λ none ys l b E. none (zero-term (element i) _ s (zero-term (element i) _ s (zero-term (element i) [] s E))))
+  pub tried-none : (i : ℕ) (h : i < 254) → (let es : List Error = at i h 0 ∷ at i h 0 ∷ at i h 0 ∷ [] in Settles (λ l. l ≡ es) (Has s es → ⊥) s o) → Settles (Stands []) (Unexplained [] s) s o
+  tried-none i h =
+      tried [] (at i h 0 ∷ at i h 0 ∷ at i h 0 ∷ []) (record { places = refl; idle = refl }) (λ none ys l b E. none (zero-term (element i) _ s (zero-term (element i) _ s (zero-term (element i) [] s E))))
 
-  pub tried-one : (i : ℕ) → (let es : List Error = at i 0 ∷ at i 0 ∷ at i (get_or s 0 0) ∷ [] in Settles (λ l. l ≡ es) (Has s es → ⊥) s o)
+  pub tried-one : (i : ℕ) (h k : i < 254) → (let es : List Error = at i h 0 ∷ at i h 0 ∷ at i k (get_or s 0 0) ∷ [] in Settles (λ l. l ≡ es) (Has s es → ⊥) s o)
       → Settles (Stands (i ∷ [])) (Unexplained (i ∷ []) s) s o
-  tried-one i =
-      tried (i ∷ []) (at i 0 ∷ at i 0 ∷ at i (get_or s 0 0) ∷ []) (record { places = refl; idle = refl })
+  tried-one i h k =
+      tried (i ∷ []) (at i h 0 ∷ at i h 0 ∷ at i k (get_or s 0 0) ∷ []) (record { places = refl; idle = refl })
       (λ none. only-solved (i ∷ []) s (get_or s 0 0 ∷ []) (omega arith) (one-solved (element i) (get_or s 0 0))
       (λ E. none (zero-term (element i) _ s (zero-term (element i) (terms_at (element i ∷ []) (get_or s 0 0 ∷ [])) s E))))
 
-  pub tried-two : (i j b c : ℕ) → Solves (element i ∷ element j ∷ []) (entries 2 0 s) (b ∷ c ∷ [])
-      → (let es : List Error = at i 0 ∷ at i b ∷ at j c ∷ [] in Settles (λ l. l ≡ es) (Has s es → ⊥) s o)
+  pub tried-two : (i j b c : ℕ) (h k : i < 254) (l : j < 254) → Solves (element i ∷ element j ∷ []) (entries 2 0 s) (b ∷ c ∷ [])
+      → (let es : List Error = at i h 0 ∷ at i k b ∷ at j l c ∷ [] in Settles (λ l. l ≡ es) (Has s es → ⊥) s o)
       → Settles (Stands (i ∷ j ∷ [])) (Unexplained (i ∷ j ∷ []) s) s o
-  tried-two i j b c S =
-      tried (i ∷ j ∷ []) (at i 0 ∷ at i b ∷ at j c ∷ []) (record { places = refl; idle = refl })
+  tried-two i j b c h k l S =
+      tried (i ∷ j ∷ []) (at i h 0 ∷ at i k b ∷ at j l c ∷ []) (record { places = refl; idle = refl })
       (λ none. only-solved (i ∷ j ∷ []) s (b ∷ c ∷ []) (omega arith) S (λ E. none (zero-term (element i) (terms_at (element i ∷ element j ∷ []) (b ∷ c ∷ [])) s E)))
 
-  pub tried-three : (i j k a b c : ℕ) → Solves (element i ∷ element j ∷ element k ∷ []) (entries 3 0 s) (a ∷ b ∷ c ∷ [])
-      → (let es : List Error = at i a ∷ at j b ∷ at k c ∷ [] in Settles (λ l. l ≡ es) (Has s es → ⊥) s o)
+  pub tried-three : (i j k a b c : ℕ) (f : i < 254) (g : j < 254) (h : k < 254) → Solves (element i ∷ element j ∷ element k ∷ []) (entries 3 0 s) (a ∷ b ∷ c ∷ [])
+      → (let es : List Error = at i f a ∷ at j g b ∷ at k h c ∷ [] in Settles (λ l. l ≡ es) (Has s es → ⊥) s o)
       → Settles (Stands (i ∷ j ∷ k ∷ [])) (Unexplained (i ∷ j ∷ k ∷ []) s) s o
-  tried-three i j k a b c S =
-      tried (i ∷ j ∷ k ∷ []) (at i a ∷ at j b ∷ at k c ∷ []) (record { places = refl; idle = refl }) (only-solved (i ∷ j ∷ k ∷ []) s (a ∷ b ∷ c ∷ []) (omega arith) S)
+  tried-three i j k a b c f g h S =
+      tried (i ∷ j ∷ k ∷ []) (at i f a ∷ at j g b ∷ at k h c ∷ []) (record { places = refl; idle = refl }) (only-solved (i ∷ j ∷ k ∷ []) s (a ∷ b ∷ c ∷ []) (omega arith) S)
 
 -- ---- tries in rising order
 

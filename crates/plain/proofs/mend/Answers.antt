@@ -8,17 +8,16 @@ use lib.ListN.{set, drop, get_or, drop_of_length-le}
 use lib.Seq.{drop-cons}
 use borrow.Author.Rules.{rules}
 use Rattle.plain.specs.Plain.{mended}
-use Rattle.plain.specs.declared.solver.Error.{Error}
-use Rattle.plain.proofs.Laws.Judge.{none}
+use Rattle.plain.specs.declared.errors.Error.{Error}
 use Rattle.plain.proofs.mend.Goals as goal
 
 pub loop-e-preserved : goal.loop-e-preserved
 loop-e-preserved c =
     let l = c.loop-e in
     let es : List Error = c.args.errors in
-    let e : Error = get_or es l.e-index none in
+    let e : Error = get_or es l.e-index c.e-item.result in
     ap₂ (λ (b : List ℕ) (k : ℕ). mended b (drop k es)) (ap (set l.block e.place) c.sum.ensures) (add-one l.e-index)
-    ∙ ap (mended l.block) (sym (drop-cons es l.e-index none (search rules))) ∙ l.invariant
+    ∙ ap (mended l.block) (sym (drop-cons es l.e-index c.e-item.result (search rules))) ∙ l.invariant
 
 pub returns : goal.returns
 returns c =

@@ -19,17 +19,17 @@ loop-sum-init c =
 pub returns-then-sum : goal.returns-then-sum
 returns-then-sum c =
     let l = c.loop-sum in
-    judged-false c.args.s c.args.errors (search rules) _ _ _ c.element-x.ensures c.element-y.ensures c.element-z.ensures _ _ _ l.sum-index l.invariant
+    judged-false c.args.s c.args.errors (search rules) _ _ _ _ _ _ c.element-x.ensures c.element-y.ensures c.element-z.ensures _ _ _ l.sum-index l.invariant
     (omega arith) (λ e. c.if-sum.true (e ∙ sym (c.sum-in-loop-sum.ensures ∙ ap (◌⊕◌ (get_or l.parts 0 0)) c.sum.ensures)))
 
 pub loop-sum-preserved : goal.loop-sum-preserved
 loop-sum-preserved c =
     let l = c.loop-sum in
-    parts_more c.args.s c.args.errors (search rules) _ _ _ c.element-x.ensures c.element-y.ensures c.element-z.ensures _ _ _ l.sum-index l.invariant
+    parts_more c.args.s c.args.errors (search rules) _ _ _ _ _ _ c.element-x.ensures c.element-y.ensures c.element-z.ensures _ _ _ l.sum-index l.invariant
     _ _ _ (c.if-sum.false ∙ c.sum-in-loop-sum.ensures ∙ ap (◌⊕◌ (get_or l.parts 0 0)) c.sum.ensures) c.product.ensures c.product-in-loop-sum.ensures c.product-in-loop-sum-2.ensures
 
 pub returns : goal.returns
 returns c =
     let l = c.loop-sum in
-    judged-true c.args.s c.args.errors (search rules) _ _ _ c.element-x.ensures c.element-y.ensures c.element-z.ensures _ _ _ l.sum-index l.invariant
+    judged-true c.args.s c.args.errors (search rules) _ _ _ _ _ _ c.element-x.ensures c.element-y.ensures c.element-z.ensures _ _ _ l.sum-index l.invariant
     c.loop-sum-test.false

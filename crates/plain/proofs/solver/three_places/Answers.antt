@@ -22,7 +22,7 @@ three-v-requires c =
 pub returns : goal.returns
 returns c =
     let v : List ℕ = c.three-v.result in
-    tried-three c.args.s _ c.args.i c.args.j c.args.k _ _ _
+    tried-three c.args.s _ c.args.i c.args.j c.args.k _ _ _ _ _ _
     (subst (λ (l : List ℕ). Solves (element c.args.i ∷ element c.args.j ∷ element c.args.k ∷ []) (entries 3 0 c.args.s) l) (sym (all-entries 3 v (search rules)))
     (subst₃ (λ (x y z : ℕ). Solves (x ∷ y ∷ z ∷ []) (entries 3 0 c.args.s) v) c.element-x.ensures c.element-y.ensures c.element-z.ensures c.three-v.ensures))
     c.judged.ensures

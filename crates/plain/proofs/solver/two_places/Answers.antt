@@ -16,7 +16,7 @@ two-v-requires c = λ e. apart _ _ c.requires.0 c.requires.1 (sym c.element.ensu
 pub returns : goal.returns
 returns c =
     let v : List ℕ = c.two-v.result in
-    tried-two c.args.s _ c.args.i c.args.j _ _
+    tried-two c.args.s _ c.args.i c.args.j _ _ _ _ _
     (subst (λ (l : List ℕ). Solves (element c.args.i ∷ element c.args.j ∷ []) (entries 2 0 c.args.s) l) (sym (all-entries 2 v (search rules)))
     (subst₂ (λ (x y : ℕ). Solves (x ∷ y ∷ []) (entries 2 0 c.args.s) v) c.element.ensures c.element-2.ensures c.two-v.ensures))
     c.judged.ensures

@@ -7,4 +7,4 @@ use Rattle.plain.proofs.Laws.Judge.{three-are}
 use Rattle.plain.proofs.solver.values.Goals as goal
 
 pub returns : goal.returns
-returns c = sym (ap values_of (three-are c.args.errors (search rules)))
+returns c = sym (ap values_of (three-are c.args.errors _ _ _ (search rules)))
