@@ -28,7 +28,12 @@ pub fn write_layout(correction: bool, ci: u8, bytes: &[u8], out: &mut [u16]) -> 
 {
     check_given(ci, bytes)?;
     require(out.len() == 262, refusal::plain(Reason::Room))?;
-    parts::fill(correction, ci, bytes, out);
+    parts::fill(
+        correction,
+        ci,
+        bytes.try_into().unwrap(),
+        out.as_mut_array().unwrap(),
+    );
     Ok(())
 }
 

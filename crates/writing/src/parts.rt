@@ -1,5 +1,5 @@
 // The 262 words of 248 bytes, written part by part into a buffer that has room for them.
-ghost use Rattle.std.specs.Prelude.{◌≡◌, cond, ◌++◌, ◌∷◌, [], ◌≤◌, length, replicate};
+ghost use Rattle.std.specs.Prelude.{◌≡◌, cond, ◌++◌, ◌∷◌, [], ◌≤◌, replicate};
 ghost use Rattle.rs.specs.Codeword.{parity_of};
 ghost use Rattle.anc.specs.Words.{sound_words, flag};
 ghost use Rattle.writing.specs.Layout.{kind, header_word, packet_words};
@@ -17,13 +17,13 @@ fn header(correction: bool, ci: u8) -> u16
     }
 }
 
-// Fills seven words with the flag, the kind and the header.
+// The first seven words: the flag, the kind and the header.
 #[tactic(auto, unfolding(anc::specs::Words::flag, crate::specs::Layout::kind))]
-fn front(correction: bool, ci: u8, out: &mut [u16])
-    requires { (ci ≤ 15) × (length out.old ≡ 7) }
-    ensures { out.new ≡ flag ++ kind ++ header_word correction ci ∷ [] }
+fn front(correction: bool, ci: u8) -> [u16; 7]
+    requires { ci ≤ 15 }
+    ensures { result ≡ flag ++ kind ++ header_word correction ci ∷ [] }
 {
-    out.copy_from_slice(&[
+    [
         0x000,
         0x3FF,
         0x3FF,
@@ -31,29 +31,28 @@ fn front(correction: bool, ci: u8, out: &mut [u16])
         0x1FE,
         0x2FF,
         header(correction, ci),
-    ]);
+    ]
 }
 
-// Fills six words with the parity of the bytes, or with 0x200 where correction is off.
-fn guard(correction: bool, bytes: &[u8], out: &mut [u16])
-    requires { length out.old ≡ 6 }
-    ensures { out.new ≡ cond correction (sound_words (parity_of bytes.now)) (replicate 6 0x200) }
+// Six words with the parity of the bytes, or 0x200 each where correction is off.
+fn guard(correction: bool, bytes: &[u8]) -> [u16; 6]
+    ensures { result ≡ cond correction (sound_words (parity_of bytes.now)) (replicate 6 0x200) }
 {
+    let mut words = [0x200; 6];
     if correction {
-        anc::sound_words(&rs::parity(bytes), out).unwrap();
-    } else {
-        out.fill(0x200);
+        anc::sound_words(&rs::parity(bytes), &mut words).unwrap();
     }
+    words
 }
 
 // Fills 262 words with the packet of 248 bytes. The checksum comes last, over the words that stand there by then.
-pub(crate) fn fill(correction: bool, ci: u8, bytes: &[u8], out: &mut [u16])
-    requires { (ci ≤ 15) × (length bytes.now ≡ 248) × (length out.old ≡ 262) }
+pub(crate) fn fill(correction: bool, ci: u8, bytes: &[u8; 248], out: &mut [u16; 262])
+    requires { ci ≤ 15 }
     ensures { out.new ≡ packet_words correction ci bytes.now }
 {
-    front(correction, ci, &mut out[0..7]);
+    out[0..7].copy_from_slice(&front(correction, ci));
     anc::sound_words(bytes, &mut out[7..255]).unwrap();
-    guard(correction, bytes, &mut out[255..261]);
+    out[255..261].copy_from_slice(&guard(correction, bytes));
     let sum = anc::checksum(&out[3..261]);
     out[261] = sum;
 }

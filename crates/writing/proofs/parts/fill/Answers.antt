@@ -1,6 +1,6 @@
 -- `writing::parts::fill` meets its contract: three parts laid over the buffer, and the checksum of what they are.
 -- Assumes nothing.
-use mathlib.Core.Path.{ap}
+use mathlib.Core.Path.{ap, ◌∙◌}
 use borrow.Author.Rules.{rules}
 use Rattle.std.specs.Prelude.{is_ok}
 use Rattle.anc.proofs.Laws.Words.{sound-filled, sound-done}
@@ -12,9 +12,9 @@ unwrap-requires c = ap is_ok (sound-done c.args.bytes.now _ c.sound_words.ensure
 
 pub returns : goal.returns
 returns c = packet-filled c.args.correction c.args.ci c.args.bytes.now c.args.out.now _ _ _ _
-    c.requires.1
-    c.requires.2
-    c.front.ensures
+    (search rules)
+    (search rules)
+    (c.copy_from_slice.ensures.after ∙ c.front.ensures)
     (sound-filled _ c.args.bytes.now _ c.sound_words.ensures.1 (search rules))
-    c.guard.ensures
+    (c.copy_from_slice-2.ensures.after ∙ c.guard.ensures)
     c.checksum-sum.ensures
