@@ -1,13 +1,13 @@
 -- What the private functions of the search with marks promise. A reader of the public contracts may pass over this file.
 -- Assumes nothing.
-use Rattle.std.specs.Prelude.{◌≡◌, Bool, true, false, not, cond, List, [], ◌∷◌, ◌++◌, map, ℕ, suc, ◌+◌, ◌*◌, ◌<◌, ◌≤◌, eqb, length, get_or, take}
+use Rattle.std.specs.Prelude.{◌≡◌, Bool, true, false, not, cond, List, [], ◌∷◌, ◌++◌, map, ℕ, suc, ◌+◌, ◌*◌, ◌<◌, ◌≤◌, eqb, length, get_or, take, Option, Some, None}
 use Rattle.std.proofs.Math.Option.{none, some}
 use Rattle.anc.specs.Word.{is_sound}
 use Rattle.gf256.specs.PowerSum.{Apart, ByteTerms}
 use Rattle.rs.specs.Marked.{marks_in, decode_marked}
 use Rattle.search.specs.Search.{Explains, error_places, error_values, terms_at, terms_of}
 use Rattle.search.specs.Values.{exponents}
-use Rattle.search.specs.declared.marked.Marks.{Marks}
+use Rattle.search.specs.declared.errors.Marks.{Marks}
 use Rattle.search.specs.declared.errors.Error.{Error}
 
 -- ---- the marked places
@@ -34,6 +34,11 @@ places_in m = take m.count (exponents m.places)
 pub record MarksOf (marks : List Bool) (m : Marks) : Type 0 where
   pub count : m.count ≡ marks_in marks
   pub at : m.count ≤ 6 → places_in m ≡ places_of marks
+
+-- one to six marks with their places; nothing where there are none, and where there are more
+abbrev pub FewMarks : List Bool → Option Marks → Type 0
+FewMarks marks (Some m) = MarksOf marks m
+FewMarks marks None = 0 < marks_in marks → 6 < marks_in marks
 
 -- the same places and k
 pub record OneMore (m : Marks) (k : ℕ) (r : Marks) : Type 0 where

@@ -1,5 +1,5 @@
-// A place in a block, and an error there.
-ghost use Rattle.std.specs.Prelude.{◌≡◌, ◌<◌};
+// A place in a block, the places that are marked, and an error at a place.
+ghost use Rattle.std.specs.Prelude.{◌≡◌, ◌<◌, ◌≤◌};
 ghost use Rattle.gf256.specs.Field.{pow};
 
 use gf256::Tables;
@@ -18,6 +18,15 @@ impl Place {
     {
         tables.wheel()[self.exponent]
     }
+}
+
+// One to six marked places. Fixed memory: room for six with their count.
+#[derive(Clone, Copy)]
+pub(crate) struct Marks {
+    pub(crate) count: usize,
+    pub(crate) places: [Place; 6],
+    ghost any: { 0 < count },
+    ghost few: { count ≤ 6 },
 }
 
 // A value at a place; a value of 0 is no error.

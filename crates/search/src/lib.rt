@@ -7,7 +7,7 @@ mod marked;
 mod solver;
 mod values;
 
-ghost use Rattle.std.specs.Prelude.{◌≡◌, ◌<◌, ◌≤◌, length};
+ghost use Rattle.std.specs.Prelude.{◌≡◌, length};
 ghost use Rattle.rs.specs.Decode.{repairable, repaired, decode_refusal};
 ghost use Rattle.refusal.specs.Checked.{checked_of};
 ghost use Rattle.rs.specs.Marked.{repairable_marked, repaired_marked};
@@ -15,7 +15,7 @@ ghost use Rattle.search.specs.Marked.{confessed, marked_refusal, marked_leaves};
 ghost use Rattle.search.specs.SearchMarked.{FirstRule};
 ghost use Rattle.search.specs.Search.{patched_by, Mends, Damaged};
 
-use errors::Error;
+use errors::{Error, Marks};
 use gf256::Tables;
 use refusal::{Reason, Refusal};
 
@@ -97,8 +97,8 @@ fn mend(block: &mut [u8], rest: [u8; 6]) -> bool
 }
 
 // Repairs a block that is no codeword by its marked places, one to six of them, where a codeword has 2e + f at most 6.
-fn mend_marks(block: &mut [u8], rest: [u8; 6], marks: marked::Marks) -> bool
-    requires { Damaged block.old rest × (0 < marks.count) × (marks.count ≤ 6) }
+fn mend_marks(block: &mut [u8], rest: [u8; 6], marks: Marks) -> bool
+    requires { Damaged block.old rest }
     ensures { FirstRule marks block.old result block.new }
 {
     let tables = Tables::new();
@@ -112,16 +112,10 @@ fn mend_marked(block: &mut [u8], rest: [u8; 6], words: &[u16; 254]) -> bool
     requires { Damaged block.old rest }
     ensures { (result ≡ repairable_marked (confessed words.now) block.old) × (block.new ≡ repaired_marked (confessed words.now) block.old) }
 {
-    let marks = marked::marks_of(words);
-    let f = marks.count;
-    if f == 0 {
-        return mend(block, rest);
-    }
-    if 6 < f {
-        return mend(block, rest);
-    }
-    if mend_marks(block, rest, marks) {
-        return true;
+    if let Some(marks) = marked::marks_of(words) {
+        if mend_marks(block, rest, marks) {
+            return true;
+        }
     }
     mend(block, rest)
 }

@@ -1,18 +1,11 @@
 // The search for errors where some places are marked: the marked places, the others in which there can be errors, and the errors at all of them.
-ghost use Rattle.std.specs.Prelude.{◌≡◌, map, ◌<◌, ◌≤◌};
+ghost use Rattle.std.specs.Prelude.{◌≡◌, map, ◌<◌};
 ghost use Rattle.search.specs.Marked.{confessed};
-ghost use Rattle.search.specs.SearchMarked.{flag_of, marks_by, MarksOf, OneMore, Locates, SolvedMarked};
+ghost use Rattle.search.specs.SearchMarked.{flag_of, marks_by, FewMarks, OneMore, Locates, SolvedMarked};
 
-use crate::errors::{Error, Place};
+use crate::errors::{Error, Marks, Place};
 use crate::{solver, values};
 use gf256::Tables;
-
-// How many places are marked, and which, where they are at most six. Fixed memory: six places with their count, which goes on to 254.
-#[derive(Clone, Copy)]
-pub(crate) struct Marks {
-    pub(crate) count: usize,
-    pub(crate) places: [Place; 6],
-}
 
 // 1 for a word that is not sound, which is one that is not the word of its own low byte.
 fn flag(word: u16) -> u8
@@ -30,9 +23,9 @@ fn flags(words: &[u16; 254], out: &mut [u8; 254])
     }
 }
 
-// The places whose flag is up.
-fn collect(flags: &[u8; 254]) -> Marks
-    ensures { MarksOf (marks_by flags.now) result }
+// The places whose flag is up, where they are one to six.
+fn collect(flags: &[u8; 254]) -> Option<Marks>
+    ensures { FewMarks (marks_by flags.now) result }
 {
     let mut places = [Place { exponent: 0 }; 6];
     let mut count = 0;
@@ -44,12 +37,15 @@ fn collect(flags: &[u8; 254]) -> Marks
             count += 1;
         }
     }
-    Marks { count, places }
+    if count == 0 || 6 < count {
+        return None;
+    }
+    Some(Marks { count, places })
 }
 
-// The places that the words mark.
-pub(crate) fn marks_of(words: &[u16; 254]) -> Marks
-    ensures { MarksOf (confessed words.now) result }
+// The places that the words mark, where they are one to six.
+pub(crate) fn marks_of(words: &[u16; 254]) -> Option<Marks>
+    ensures { FewMarks (confessed words.now) result }
 {
     let mut raised = [0; 254];
     flags(words, &mut raised);
@@ -72,7 +68,6 @@ fn with_one(marks: Marks, place: Place) -> Marks
 // The marked places, and behind them those of the errors elsewhere, at most (6 - f) / 2, that the sums allow which are left once the marked places are
 // killed. Two such errors have a determinant, and one has a first sum.
 fn located(tables: &Tables, s: [u8; 6], marks: Marks) -> Marks
-    requires { (0 < marks.count) × (marks.count ≤ 6) }
     ensures { Locates s marks result }
 {
     let f = marks.count;
@@ -96,7 +91,6 @@ fn located(tables: &Tables, s: [u8; 6], marks: Marks) -> Marks
 
 // Errors at the marked places, and at those of at most (6 - f) / 2 errors elsewhere: where any have the six sums, these do.
 pub(crate) fn find_marked(tables: &Tables, s: [u8; 6], marks: Marks) -> [Error; 6]
-    requires { (0 < marks.count) × (marks.count ≤ 6) }
     ensures { SolvedMarked s marks result }
 {
     let all = located(tables, s, marks);

@@ -5,7 +5,7 @@ use mathlib.Core.Path.{◌≡◌, refl, sym, ap, ◌∙◌, subst}
 use mathlib.Core.Bool.{Bool, true}
 use mathlib.Core.List.{List, ◌++◌}
 use mathlib.Core.Option.{Option, none, some, get_or}
-use Prim.Native.Nat.{ℕ, ◌≤◌, ◌<◌}
+use Prim.Native.Nat.{ℕ, zero, suc, ◌≤◌, ◌<◌}
 use native.Mathlib.Omega.{arith}
 use lib.ListN.{length, take}
 use Rattle.gf256.specs.Field.{◌⊕◌, pow}
@@ -16,11 +16,11 @@ use Rattle.rs.specs.Polynomial.{value_at, ◌⊞◌}
 use Rattle.rs.specs.Decode.{given, decode, repairable, repaired}
 use Rattle.rs.specs.Marked.{marks_in, errors, decode_marked, decode_both, repairable_marked, repaired_marked}
 use Rattle.rs.proofs.Laws.Codeword.{vanishing-codeword}
-use Rattle.rs.proofs.Laws.Marked.{marked-sound, marked-complete, both-complete, both-second}
+use Rattle.rs.proofs.Laws.Marked.{marked-sound, marked-complete, both-complete, both-second, both-unmarked}
 use Rattle.search.specs.Search.{Explains, error_places, error_values, terms_of, patched_by, sums_of, Damaged}
 use Rattle.search.specs.SearchMarked.{MarksOf, Fits, SolvedMarked}
 use Rattle.search.specs.declared.errors.Error.{Error}
-use Rattle.search.specs.declared.marked.Marks.{Marks}
+use Rattle.search.specs.declared.errors.Marks.{Marks}
 use Rattle.search.proofs.Laws.Errors.{places-long, values-long, places-placed}
 use Rattle.search.proofs.Laws.Repair.{sum-value, lack-value}
 use Rattle.search.proofs.Laws.Split.{values_in, other_places, other_values, lack-fits}
@@ -95,3 +95,11 @@ second-answer marks l e r after p q = record { said = p ∙ sym (ap given e); le
 -- of more than six marks the first rule gives none
 pub many-marks : (marks : List Bool) (l : List ℕ) → 6 < marks_in marks → decode_both marks l ≡ decode l
 many-marks marks l h = both-second marks l (λ c W. omega (arith, W.near))
+
+-- and where none are marked, or more than six, the bytes alone decide
+pub no-few : (marks : List Bool) (l : List ℕ) → (0 < marks_in marks → 6 < marks_in marks) → decode_both marks l ≡ decode l
+no-few marks l h = go (marks_in marks) refl
+  where
+    go : (n : ℕ) → marks_in marks ≡ n → decode_both marks l ≡ decode l
+    go zero e = both-unmarked marks l e
+    go (suc n) e = many-marks marks l (h (omega (arith, e)))

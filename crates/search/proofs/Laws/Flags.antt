@@ -15,6 +15,7 @@ use Rattle.anc.specs.Word.{is_sound}
 use Rattle.rs.specs.Marked.{marks_in}
 use Rattle.search.specs.Values.{exponents}
 use Rattle.search.specs.declared.errors.Place.{Place}
+use Rattle.search.specs.declared.errors.Marks.{Marks}
 use Rattle.search.proofs.Laws.Values.{exponents-long, exponents-set}
 use Rattle.search.specs.Marked.{confessed}
 use Rattle.search.specs.SearchMarked.{flag_of, marks_by, places_of, MarksOf}
@@ -122,12 +123,20 @@ module _ (flags : List ℕ) (whole : length flags ≡ 254) (places : List Place)
       so_far = λ q. absurd (omega arith);
     }
 
-pub collecting-all : (flags : List ℕ) (places : List Place) (count i : ℕ) → length flags ≡ 254 → 254 ≤ i → Collecting flags places count i
-    → MarksOf (marks_by flags) (record { count = count; places = places })
-unfolding marks_by marks_in places_of
-collecting-all flags places count i long h C =
-    let none : drop i flags ≡ [] = drop_of_length-le flags {i = i} (omega arith) in
-    record {
-      count = omega (arith, C.counted, ap (λ (l : List ℕ). marks_in (marks_by l)) none);
-      at = λ q. sym (append-nil _) ∙ sym (ap (λ (l : List ℕ). take count (exponents places) ++ places_of (marks_by l)) none) ∙ C.so_far q;
-    }
+module _ (flags : List ℕ) (places : List Place) (count i : ℕ) (long : length flags ≡ 254) (h : 254 ≤ i) (C : Collecting flags places count i) where
+  none : drop i flags ≡ []
+  none = drop_of_length-le flags {i = i} (omega arith)
+
+  -- at the end all are counted
+  pub collected : count ≡ marks_in (marks_by flags)
+  unfolding marks_by marks_in
+  collected = omega (arith, C.counted, ap (λ (l : List ℕ). marks_in (marks_by l)) none)
+
+  -- and the places of at most six are in hand
+  pub collecting-all : (m : Marks) → m.count ≡ count → m.places ≡ places → MarksOf (marks_by flags) m
+  unfolding marks_by places_of
+  collecting-all m p q = record {
+    count = p ∙ collected;
+    at = λ r. ap₂ (λ (n : ℕ) (ps : List Place). take n (exponents ps)) p q
+        ∙ sym (append-nil _) ∙ sym (ap (λ (l : List ℕ). take count (exponents places) ++ places_of (marks_by l)) none) ∙ C.so_far (omega arith);
+  }

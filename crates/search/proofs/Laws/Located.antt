@@ -20,7 +20,7 @@ use Rattle.std.specs.Prelude.{Option, Some, None, IsSomeAnd}
 use Rattle.search.specs.Search.{term, error_places, terms_at, Explains, killed_of, Are, FindsOne, FindsTwo}
 use Rattle.search.specs.Values.{exponents, killed_by}
 use Rattle.search.specs.SearchMarked.{places_in, OneMore, NoZero, Fits, Locates}
-use Rattle.search.specs.declared.marked.Marks.{Marks}
+use Rattle.search.specs.declared.errors.Marks.{Marks}
 use Rattle.search.specs.declared.errors.Error.{Error}
 use Rattle.search.proofs.Laws.Errors.{place-at}
 use Rattle.search.proofs.Laws.Moment.{explained-one}

@@ -17,7 +17,7 @@ use Rattle.search.specs.declared.errors.Error.{Error}
 use Rattle.search.proofs.Laws.Errors.{places-long, values-long}
 use Rattle.search.proofs.Laws.Values.{exponents-long}
 use Rattle.search.specs.SearchMarked.{places_in, Fits, Locates, SolvedMarked}
-use Rattle.search.specs.declared.marked.Marks.{Marks}
+use Rattle.search.specs.declared.errors.Marks.{Marks}
 
 -- values of 0 add nothing
 sum-run : (j n : ℕ) (ks v : List ℕ) → ((i : ℕ) → n ≤ i → get_or v i 0 ≡ 0) → power_sum (terms_at ks v) j ≡ power_sum (terms_at (take n ks) (take n v)) j

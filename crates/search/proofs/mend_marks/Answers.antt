@@ -22,7 +22,7 @@ returns c =
     record {
       found = λ q marks em M.
           let R = c.mend_by.ensures.right q in
-          found-marked block _ _ bytes c.requires.0 c.sums-s.ensures m c.requires.2 six fs S n marks em M R.1 after (at-below 256 after (λ i. (c.type_inv.block i).fits)) R.2;
-      lost = λ q marks em M. lost-marked block _ _ bytes c.requires.0 c.sums-s.ensures m c.requires.2 six fs S n marks em M (c.mend_by.ensures.wrong q);
+          found-marked block _ _ bytes c.requires c.sums-s.ensures m m.few six fs S n marks em M R.1 after (at-below 256 after (λ i. (c.type_inv.block i).fits)) R.2;
+      lost = λ q marks em M. lost-marked block _ _ bytes c.requires c.sums-s.ensures m m.few six fs S n marks em M (c.mend_by.ensures.wrong q);
       kept = c.mend_by.ensures.kept;
     }

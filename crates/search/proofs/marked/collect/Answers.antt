@@ -7,9 +7,9 @@ use Prim.Native.Nat.{ℕ, ◌+◌, ◌<◌}
 use native.Mathlib.Omega.{arith}
 use lib.ListN.{length}
 use Rattle.search.specs.declared.errors.Place.{Place}
-use Rattle.search.proofs.Laws.Flags.{Collecting, collecting-none, collecting-same, collecting-more, collecting-many, collecting-all}
+use Rattle.search.proofs.Laws.Flags.{Collecting, collecting-none, collecting-same, collecting-more, collecting-many, collected, collecting-all}
 use Rattle.search.proofs.marked.collect.Goals as goal
-use Rattle.search.proofs.marked.collect.Goals.{then-flag-ne0, then-count-lt6, else-count-lt6, else-flag-ne0}
+use Rattle.search.proofs.marked.collect.Goals.{then-flag-ne0, then-count-lt6, else-count-lt6, else-flag-ne0, then-count-eq0-via-then-count-eq0, then-count-eq0-via-else-count-eq0+then-count-gt6}
 
 pub loop-i-init : goal.loop-i-init
 loop-i-init c = collecting-none c.args.flags.now _ refl
@@ -35,8 +35,18 @@ loop-i-preserved c =
           (collecting-same fs whole l.places l.count l.i l.invariant h w.if-flag-ne0.false)
     ]
 
+pub returns-then-count-eq0 : goal.returns-then-count-eq0
+returns-then-count-eq0 c =
+    let l = c.loop-i in
+    let whole : length c.args.flags.now ≡ 254 = search rules in
+    let n = collected c.args.flags.now l.places l.count l.i whole (omega arith) l.invariant in
+    elim c.then-count-eq0.branch [
+      | then-count-eq0-via-then-count-eq0 w ↦ λ h. omega (arith, n, w.if-count-eq0.true)
+      | then-count-eq0-via-else-count-eq0+then-count-gt6 w ↦ λ h. omega (arith, n, w.if-count-gt6.true)
+    ]
+
 pub returns : goal.returns
 returns c =
     let l = c.loop-i in
     let whole : length c.args.flags.now ≡ 254 = search rules in
-    collecting-all c.args.flags.now l.places l.count l.i whole (omega arith) l.invariant
+    collecting-all c.args.flags.now l.places l.count l.i whole (omega arith) l.invariant _ refl refl
