@@ -1,6 +1,6 @@
 // What stands in a field, as code gets at it: ten bits lie in two neighbouring bytes and eight bits in two neighbouring words of ten, so that four
 // words go into five bytes.
-ghost use Rattle.std.specs.Prelude.{◌≡◌, true, ◌+◌, ◌*◌, ◌≤◌, ◌<◌, length, take, drop};
+ghost use Rattle.std.specs.Prelude.{◌≡◌, true, ◌+◌, ◌*◌, ◌≤◌, ◌<◌, take, drop};
 ghost use Rattle.anc.specs.Words.{narrow};
 ghost use Rattle.b40.specs.Field.{bits_each, number_of, numbers, field_of, part, words_of, is_place};
 
@@ -13,16 +13,16 @@ pub(crate) fn is_place(line: u16, offset: u16) -> bool
 }
 
 // Eight bits of words of ten, from bit 10k + from on: they lie in word k and the next.
-fn byte(words: &[u16], k: usize, from: usize) -> u8
-    requires { (narrow words.now ≡ true) × (k + 1 < length words.now) × (from ≤ 12) }
+fn byte(words: &[u16; 263], k: usize, from: usize) -> u8
+    requires { (narrow words.now ≡ true) × (k < 262) × (from ≤ 12) }
     ensures { result ≡ number_of (take 8 (drop (10 * k + from) (bits_each 10 words.now))) }
 {
     (((words[k] as u32 * 1024 + words[k + 1] as u32) >> (12 - from)) % 256) as u8
 }
 
 // Fills 328 bytes with the bits of 263 words, of the last as many as there is room for.
-fn fill_bytes(words: &[u16], out: &mut [u8])
-    requires { (narrow words.now ≡ true) × (length words.now ≡ 263) × (length out.old ≡ 328) }
+fn fill_bytes(words: &[u16; 263], out: &mut [u8; 328])
+    requires { narrow words.now ≡ true }
     ensures { out.new ≡ numbers 328 8 (bits_each 10 words.now) }
 {
     for i in 0..65 {
@@ -39,8 +39,8 @@ fn fill_bytes(words: &[u16], out: &mut [u8])
 
 // Fills 328 bytes with the field. What stands before the words takes the place of the flag, three words of ten bits; the pad is the upper bits of
 // a word behind the others.
-pub(crate) fn write_bytes(yc: bool, line: u16, offset: u16, words: &[u16], out: &mut [u8])
-    requires { (narrow words.now ≡ true) × (is_place line offset ≡ true) × (length words.now ≡ 262) × (length out.old ≡ 328) }
+pub(crate) fn write_bytes(yc: bool, line: u16, offset: u16, words: &[u16; 262], out: &mut [u8; 328])
+    requires { (narrow words.now ≡ true) × (is_place line offset ≡ true) }
     ensures { out.new ≡ field_of yc line offset words.now }
 {
     let mut head = line as u32 * 4096 + offset as u32;
@@ -56,24 +56,22 @@ pub(crate) fn write_bytes(yc: bool, line: u16, offset: u16, words: &[u16], out: 
 }
 
 // The number that the first 32 bits of a field spell.
-pub(crate) fn first(field: &[u8]) -> u32
-    requires { 4 ≤ length field.now }
+pub(crate) fn first(field: &[u8; 328]) -> u32
     ensures { result ≡ part field.now 0 32 }
 {
     u32::from_be_bytes([field[0], field[1], field[2], field[3]])
 }
 
 // Ten bits of a field, from bit 8k + from on: they lie in byte k and the next.
-fn word(field: &[u8], k: usize, from: usize) -> u16
-    requires { (k + 1 < length field.now) × (from ≤ 6) }
+fn word(field: &[u8; 328], k: usize, from: usize) -> u16
+    requires { (k < 327) × (from ≤ 6) }
     ensures { result ≡ part field.now (8 * k + from) 10 }
 {
     ((field[k] as u16 * 256 + field[k + 1] as u16) >> (6 - from)) % 1024
 }
 
 // Fills 262 words with the packet in a field. The flag takes the place of what stands before the words.
-pub(crate) fn write_words(field: &[u8], out: &mut [u16])
-    requires { (length field.now ≡ 328) × (length out.old ≡ 262) }
+pub(crate) fn write_words(field: &[u8; 328], out: &mut [u16; 262])
     ensures { out.new ≡ words_of field.now }
 {
     for i in 0..65 {

@@ -16,7 +16,13 @@ pub fn pack(yc: bool, line: u16, offset: u16, words: &[u16], out: &mut [u8]) -> 
     ensures { (result ≡ packed_of line offset words.now (length out.old)) × (out.new ≡ pack_leaves yc line offset words.now out.old) }
 {
     check_packing(line, offset, words, out.len())?;
-    field::write_bytes(yc, line, offset, words, out);
+    field::write_bytes(
+        yc,
+        line,
+        offset,
+        words.try_into().unwrap(),
+        out.as_mut_array().unwrap(),
+    );
     Ok(())
 }
 
@@ -45,13 +51,14 @@ pub fn unpack(field: &[u8], out: &mut [u16]) -> Result<Head, Refusal>
     ensures { (result ≡ unpacked_of field.now (length out.old)) × (out.new ≡ unpack_leaves field.now out.old) }
 {
     require(field.len() == 328, plain(Reason::FieldLength))?;
+    let field: &[u8; 328] = field.try_into().unwrap();
     let first = field::first(field);
     let line = ((first >> 14) % 2048) as u16;
     let offset = ((first >> 2) % 4096) as u16;
     let is_head = (first >> 26 == 0) & field::is_place(line, offset);
     require(is_head, plain(Reason::FieldHead))?;
     require(out.len() == 262, plain(Reason::Room))?;
-    field::write_words(field, out);
+    field::write_words(field, out.as_mut_array().unwrap());
     let yc = (first >> 25) % 2 == 1;
     Ok(Head { yc, line, offset })
 }

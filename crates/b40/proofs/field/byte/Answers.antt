@@ -3,6 +3,7 @@
 use mathlib.Core.Path.{sym}
 use Prim.Native.Nat.{◌-◌}
 use native.Mathlib.Omega.{arith}
+use borrow.Author.Rules.{rules}
 use Rattle.anc.proofs.Laws.Words.{narrow_below}
 use Rattle.b40.proofs.Laws.Window.{pair}
 use Rattle.b40.proofs.field.byte.Goals as goal
@@ -10,4 +11,4 @@ use Rattle.b40.proofs.field.byte.Goals as goal
 pub returns : goal.returns
 returns c =
     let w = c.args.words.now in
-    sym (pair 10 w (narrow_below w c.requires.0) c.args.k c.args.from 8 (12 - c.args.from) c.requires.1 (omega arith))
+    sym (pair 10 w (narrow_below w c.requires.0) c.args.k c.args.from 8 (12 - c.args.from) (search rules) (omega arith))

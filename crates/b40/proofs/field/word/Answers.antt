@@ -3,6 +3,7 @@
 use mathlib.Core.Path.{sym}
 use Prim.Native.Nat.{◌-◌}
 use native.Mathlib.Omega.{arith}
+use borrow.Author.Rules.{rules}
 use Rattle.b40.specs.Field.{bits_of, part}
 use Rattle.basics.proofs.Laws.Below.{at-below}
 use Rattle.b40.proofs.Laws.Window.{pair}
@@ -12,5 +13,5 @@ pub returns : goal.returns
 unfolding part bits_of
 returns c =
     let f = c.args.field.now in
-    let bytes = at-below 256 f (λ i. (c.type_inv.field i).fits) in
-    sym (pair 8 f bytes c.args.k c.args.from 10 (6 - c.args.from) c.requires.0 (omega arith))
+    let bytes = at-below 256 f (λ i. search rules) in
+    sym (pair 8 f bytes c.args.k c.args.from 10 (6 - c.args.from) (search rules) (omega arith))

@@ -4,7 +4,8 @@ use mathlib.Core.Path.{◌≡◌, sym, ap, ◌∙◌}
 use mathlib.Core.List.{List, [], ◌∷◌, ◌++◌}
 use Prim.Native.Nat.{ℕ, ◌+◌, ◌*◌, ◌/◌, ◌%◌}
 use native.Mathlib.Omega.{arith}
-use lib.ListN.{length, set, length-set, length-append}
+use lib.ListN.{length, set}
+use borrow.Author.Rules.{rules}
 use Rattle.anc.specs.Words.{narrow}
 use Rattle.b40.specs.Field.{bits_each, numbers}
 use Rattle.b40.proofs.Laws.Places.{head_number, with-yc, without-yc, tens, tens-built, tens-narrow, field-tens}
@@ -22,14 +23,13 @@ fill_bytes-requires c =
     let a = c.args in
     let rest : ℕ = a.line * 4096 + a.offset in
     let h : c.if-yc.head ≡ head_number a.yc a.line a.offset = elim c.if-yc.branch [ then-yc w ↦ w.head-is ∙ with-yc a.yc rest w.if-yc.true | else-yc w ↦ w.head-is ∙ without-yc a.yc rest w.if-yc.false ] in
-    let e = made _ _ a.words.now _ c.requires.2 c.copy_from_slice.ensures.after h in
-    let long : length c.copy_from_slice.new.self ≡ 262 = ap length c.copy_from_slice.ensures.after ∙ c.requires.2 in
-    (ap narrow e ∙ tens-narrow a.yc a.line a.offset a.words.now c.requires.1 c.requires.0, simp (length-set, length-append) (omega arith), c.requires.3)
+    let e = made _ _ a.words.now _ (search rules) c.copy_from_slice.ensures.after h in
+    ap narrow e ∙ tens-narrow a.yc a.line a.offset a.words.now c.requires.1 c.requires.0
 
 pub returns : goal.returns
 returns c =
     let a = c.args in
     let rest : ℕ = a.line * 4096 + a.offset in
     let h : c.if-yc.head ≡ head_number a.yc a.line a.offset = elim c.if-yc.branch [ then-yc w ↦ w.head-is ∙ with-yc a.yc rest w.if-yc.true | else-yc w ↦ w.head-is ∙ without-yc a.yc rest w.if-yc.false ] in
-    let e = made _ _ a.words.now _ c.requires.2 c.copy_from_slice.ensures.after h in
-    c.fill_bytes.ensures ∙ ap (λ (l : List ℕ). numbers 328 8 (bits_each 10 l)) e ∙ sym (field-tens a.yc a.line a.offset a.words.now c.requires.1 c.requires.2)
+    let e = made _ _ a.words.now _ (search rules) c.copy_from_slice.ensures.after h in
+    c.fill_bytes.ensures ∙ ap (λ (l : List ℕ). numbers 328 8 (bits_each 10 l)) e ∙ sym (field-tens a.yc a.line a.offset a.words.now c.requires.1 (search rules))

@@ -5,6 +5,7 @@ use mathlib.Core.List.{List}
 use Prim.Native.Nat.{ℕ, ◌+◌, ◌*◌}
 use native.Mathlib.Omega.{arith}
 use lib.ListN.{set, length-set}
+use borrow.Author.Rules.{rules}
 use Rattle.basics.proofs.Laws.Parts.{filled}
 use Rattle.b40.specs.Field.{bits_of, part, numbers}
 use Rattle.b40.proofs.Laws.Bits.{numbers-length}
@@ -16,7 +17,7 @@ pub loop-i-preserved : goal.loop-i-preserved
 unfolding part
 loop-i-preserved c =
     let l = c.loop-i in
-    let put = placed 262 10 (bits_of c.args.field.now) c.args.out.now c.requires.1 in
+    let put = placed 262 10 (bits_of c.args.field.now) c.args.out.now (search rules) in
     let i = 4 * l.i in
     let e1 = put l.out i (i + 1) (8 * (5 * l.i) + 0) _ l.invariant.1 (omega arith) c.word.ensures (omega arith) refl in
     let e2 = put _ (i + 1) (i + 2) (8 * (5 * l.i + 1) + 2) _ e1 (omega arith) c.word-in-loop-i.ensures (omega arith) (omega arith) in
@@ -29,9 +30,9 @@ returns c =
     let l = c.loop-i in
     let b = bits_of c.args.field.now in
     let old = c.args.out.now in
-    let put = placed 262 10 b old c.requires.1 in
+    let put = placed 262 10 b old (search rules) in
     let i : 4 * l.i ≡ 260 = omega arith in
     let e1 = put l.out 260 261 2600 _ (l.invariant.1 ∙ ap (filled (numbers 262 10 b) old) i) (omega arith) c.word-2.ensures refl refl in
     let e2 = put _ 261 262 2610 _ e1 (omega arith) c.word-3.ensures refl refl in
-    ap (λ (x : List ℕ). set (set (set x 0 0x000) 1 0x3FF) 2 0x3FF) (placed-all 262 10 b old c.requires.1 _ e2)
+    ap (λ (x : List ℕ). set (set (set x 0 0x000) 1 0x3FF) 2 0x3FF) (placed-all 262 10 b old (search rules) _ e2)
     ∙ three-over (numbers 262 10 b) 0x000 0x3FF 0x3FF (omega (arith, numbers-length 262 10 b)) ∙ held-words c.args.field.now
