@@ -279,7 +279,7 @@ impl From<Turn> for AyTurn {
     }
 }
 
-// The number that a kind has for C.
+// The number that a kind has for C. No `From`: the kind is of `sequence` and the number of the language, and C's numbers are of this crate.
 #[tactic(auto, unfolding(crate::specs::Answers::kind_number))]
 fn kind_number(kind: Kind) -> u8
     ensures { result ≡ kind_number kind }

@@ -1,5 +1,5 @@
-// The calls for C: numbers, lent slices and plain structs, each under its plain name; `capi_c` exports them. What they say stands in
-// include/aynirukh.h.
+// The calls for C: numbers, lent slices and plain structs, each under its plain name; `capi_c` exports them, since no crate is both a library and
+// an archive. What they say stands in include/aynirukh.h.
 #![tactic(auto)]
 
 ghost use Rattle.std.specs.Prelude.{◌≡◌, length};

@@ -1,4 +1,5 @@
-// The exports for C: each is the call of `capi` that has its name, under the clauses of that call. What they say stands in include/aynirukh.h.
+// The exports for C: each is the call of `capi` that has its name, under the clauses of that call, since no crate is both a library and an archive.
+// What they say stands in include/aynirukh.h.
 #![tactic(auto)]
 
 ghost use Rattle.std.specs.Prelude.{◌≡◌, length};

@@ -34,9 +34,8 @@ pub struct Held {
     pub successive: bool,
 }
 
-// It crosses to C as it lies in memory, so that `started` tells what is there, and no Option.
 // Has a packet been accepted; the two records; `back`: is the one before shown, and not the one at the position? And the counts, which stop at the
-// ceiling.
+// ceiling. A follower crosses to C as it lies in memory, so `started`, `successive` and `back` are flags, and what stands beside them is no Option.
 #[repr(C)]
 #[derive(Clone, Copy, Debug, PartialEq, Eq)]
 pub struct Follower {

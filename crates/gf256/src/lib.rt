@@ -112,7 +112,7 @@ impl Tables {
     }
 
     // The wheel itself, for code that looks at many of its places and knows that they are on it: with 510 for the logarithm of 0, what stands at the sum of two is the
-    // product. A call for each place would have to test it, which costs a third of a repair.
+    // product. A call for each place would have to test it, and a repair of three words would take a fifth longer.
     pub fn wheel(&self) -> &[u8; 1021]
         ensures { Wheel result.now }
     {
@@ -131,7 +131,7 @@ impl Tables {
     }
 }
 
-// The product.
+// The product. It and the quotient are alike but for the operation, which is a line each: no closure says it more plainly.
 pub fn product(a: u8, b: u8) -> u8
     ensures { result ≡ a ⊗ b }
 {

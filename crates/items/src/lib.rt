@@ -1,6 +1,5 @@
-// The items of the record, each by its number, which is how the interface, a step of the history and the table of the definitions name it (so there is no
-// enum of items): where it stands, what the bytes given for it are refused for, and which have places that aren't
-// read.
+// The items of the record, each by its number, which is how the interface, a step of the history and the table of the definitions name it (so there
+// is no enum of items): where it stands, what the bytes given for it are refused for, and which have places that aren't read.
 #![tactic(auto)]
 
 mod item;

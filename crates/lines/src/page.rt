@@ -1,4 +1,5 @@
-// A page of 704 places that text is written on, character by character.
+// A page of 704 places that text is written on, character by character. The digits are its own: the definitions and the clause of `show` have the bytes, and
+// a Formatter would answer with a Result that cannot fail here.
 ghost use Rattle.std.specs.Prelude.{◌≡◌, ◌<◌, ◌≤◌};
 ghost use Rattle.lines.specs.Text.{digit, leading, decimal, hex_byte, hex_bytes, blank, pushed, written};
 

@@ -1,5 +1,5 @@
-// The refusals: why a call says no, and at which byte. Every crate that can refuse answers with these in a Result,
-// and its checks follow one another by `?`.
+// The refusals: why a call says no, and at which byte. A call that can be refused answers with one in a Result, and its checks follow one
+// another by `?`; desk and follower, which are handed back, answer with it beside them.
 #![tactic(auto)]
 
 ghost use Rattle.std.specs.Prelude.{◌≡◌};
@@ -98,7 +98,7 @@ impl From<Wrong> for u8 {
     }
 }
 
-// The bits that a reason carries: those of the word where it is PARITY, else 0.
+// The bits that a reason carries: those of the word where it is PARITY, else 0. No `From`: the number that a reason becomes is its own one.
 #[tactic(auto, unfolding(crate::specs::Number::bits_in))]
 pub fn bits_in(reason: Reason) -> u8
     ensures { result ≡ bits_in reason }

@@ -4,7 +4,7 @@
 use Rattle.std.specs.Prelude.{◌≡◌, List, [], ◌∷◌, ◌++◌, ℕ, eqb, length, take, drop, Result}
 use Rattle.std.proofs.Math.Option.{Option}
 use Rattle.basics.specs.Below.{Bytes}
-use Rattle.refusal.specs.Chain.{require, passed}
+use Rattle.refusal.specs.Chain.{require, passed, left_by}
 use Rattle.refusal.specs.Checked.{answer_of}
 use Rattle.refusal.specs.Number.{refusal_plain}
 use Rattle.refusal.specs.declared.Reason.TheVariants.{Size}
@@ -39,9 +39,9 @@ parity_of d = remainder divisor_bytes (zeros 6) d
 unfoldable pub block_refusal : List ℕ → Option Refusal
 block_refusal block = require (eqb (length block) 254) (refusal_plain Size) passed
 
--- what the division leaves of a block: the parity of the first 248 bytes, with the last six added
+-- what the division leaves of a block: the parity of the first 248 bytes, with the last six added; of a block that is refused, six zeros
 unfoldable pub left_of : List ℕ → List ℕ
-left_of block = parity_of (take 248 block) ⊞ drop 248 block
+left_of block = left_by (block_refusal block) (parity_of (take 248 block) ⊞ drop 248 block) (zeros 6)
 
 -- the answer
 unfoldable pub divided_of : List ℕ → Result (List ℕ) Refusal

@@ -11,7 +11,7 @@ pub(crate) struct Sent {
 }
 
 // What is counted, the true numbers: of the frames that were repeated too, and of the deliveries at which desk and follower agreed. Then what the line
-// stands at, with the packet that was sent last and whether it came; and desk and follower.
+// stands at, with the packet that was sent last where it came; and desk and follower.
 #[derive(Clone, Copy)]
 pub(crate) struct Day {
     pub sent: u32,
@@ -22,9 +22,8 @@ pub(crate) struct Day {
     pub agreed: u32,
     pub gap: u32,
     pub begun: bool,
-    pub came: bool,
     pub chance: u64,
-    pub latest: Sent,
+    pub came: Option<Sent>,
     pub desk: Desk,
     pub follower: Follower,
 }
@@ -175,17 +174,17 @@ impl Day {
             return Day {
                 gap: self.gap.wrapping_add(1),
                 missed: self.missed.wrapping_add(u32::from(self.begun)),
-                came: false,
+                came: None,
                 ..self
             };
         }
         let once = Day {
-            came: true,
+            came: Some(packet),
             ..self.arrives(packet, false)
         };
-        match chance / 5000 % 3 {
-            0 => once.arrives(packet, true),
-            1 if self.came => once.frame_again(self.latest, packet),
+        match (chance / 5000 % 3, self.came) {
+            (0, _) => once.arrives(packet, true),
+            (1, Some(earlier)) => once.frame_again(earlier, packet),
             _ => once,
         }
     }
@@ -204,10 +203,7 @@ impl Day {
             desk: sending.desk,
             ..self
         };
-        Day {
-            latest: packet,
-            ..sent.carried(packet, chance)
-        }
+        sent.carried(packet, chance)
     }
 }
 
@@ -222,12 +218,8 @@ pub(crate) fn run() -> Day {
         agreed: 0,
         gap: 0,
         begun: false,
-        came: false,
+        came: None,
         chance: 20261115,
-        latest: Sent {
-            words: [0; 262],
-            bytes: [0; 248],
-        },
         desk: fresh(),
         follower: Follower::open(),
     };

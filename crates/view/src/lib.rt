@@ -23,9 +23,9 @@ pub struct Time {
     pub milliseconds: Option<u16>,
 }
 
-// W0 less 0x80 is the format, 1 to 5. Format, frame rate, sampling and a sound's mode stay numbers: the definitions and the laws of the way back have those of the
-// standard's tables. What is read for one format alone is false for the others: transport_progressive is read for 5,
-// samples_960 for 1 and second_link for 2.
+// W0 less 0x80 is the format, 1 to 5. Format, frame rate, sampling and a sound's mode stay numbers: the definitions and the laws of the way back have
+// those of the standard's tables. What is read for one format alone is false for the others: transport_progressive is read for 5, samples_960 for 1
+// and second_link for 2.
 #[derive(Clone, Copy, Debug, PartialEq, Eq)]
 pub struct Picture {
     pub format: u8,

@@ -73,6 +73,14 @@ block_refused l n = rw (ne_eqb _ _ n) refl
 
 -- ---- what the division leaves of a block
 
+pub left-short : (l : List ℕ) → (length l ≡ 254 → ⊥) → left_of l ≡ zeros 6
+unfolding left_of
+left-short l n = rw (block_refused l n) refl
+
+pub left-long : (l : List ℕ) → length l ≡ 254 → left_of l ≡ parity_of (take 248 l) ⊞ drop 248 l
+unfolding left_of
+left-long l n = rw (block-passes l n) refl
+
 -- what a division answers
 module _ (l : List ℕ) where
   pub divided-short : (length l ≡ 254 → ⊥) → divided_of l ≡ Err (refusal_plain Size)
@@ -102,29 +110,25 @@ module _ (l : List ℕ) (n : length l ≡ 254) where
   as_long = parity-length (take 248 l) ∙ sym last-six
 
   pub left-six : length (left_of l) ≡ 6
-  unfolding left_of
-  left-six = length-⊞ _ _ as_long ∙ last-six
+  left-six = ap length (left-long l n) ∙ length-⊞ _ _ as_long ∙ last-six
 
   -- it has the values of the block
   pub left-value : Bytes l → (j : ℕ) → j < 6 → value_at (pow 2 j) (left_of l) ≡ value_at (pow 2 j) l
-  unfolding left_of
   left-value b j h =
-      remainder-value (take 248 l) (drop 248 l) last-six (take_below 256 248 l b) j h
+      ap (value_at (pow 2 j)) (left-long l n) ∙ remainder-value (take 248 l) (drop 248 l) last-six (take_below 256 248 l b) j h
       ∙ ap (value_at (pow 2 j)) (take-append-drop 248 l)
 
   -- it is 0 exactly where the block is a codeword
   pub zero-codeword : Bytes l → left_of l ≡ zeros 6 → Codeword l
-  unfolding left_of
   zero-codeword b z = record {
     long = n;
     bytes = b;
-    parity = sym (⊞-zero-eq _ _ as_long (z ∙ ap (λ (k : ℕ). zeros k) (sym last-six)));
+    parity = sym (⊞-zero-eq _ _ as_long (sym (left-long l n) ∙ z ∙ ap (λ (k : ℕ). zeros k) (sym last-six)));
   }
 
 pub codeword-zero : (l : List ℕ) → Codeword l → left_of l ≡ zeros 6
-unfolding left_of
 codeword-zero l C =
-    ap (λ (m : List ℕ). parity_of (take 248 l) ⊞ m) C.parity ∙ ⊞-self _
+    left-long l C.long ∙ ap (λ (m : List ℕ). parity_of (take 248 l) ⊞ m) C.parity ∙ ⊞-self _
     ∙ ap (λ (k : ℕ). zeros k) (parity-length (take 248 l))
 
 -- ---- codewords are what vanishes, and no two are near each other

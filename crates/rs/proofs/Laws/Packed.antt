@@ -4,7 +4,7 @@ use mathlib.Core.Path.{◌≡◌, refl, sym, ap, ap₂, ◌∙◌, subst}
 use mathlib.Core.Logic.{⊎_elim}
 use mathlib.Core.List.{List, [], ◌∷◌, ◌++◌}
 use Prim.Native.Nat.{ℕ, zero, suc, ◌+◌, ◌-◌, ◌*◌, ◌/◌, ◌%◌, ◌^◌, ◌≤◌, ◌<◌}
-use native.Mathlib.Nat.{suc_inj, one-mul, pow-suc, mod-lt, le_of_suc-le-suc, eq-or-lt_of_le}
+use native.Mathlib.Nat.{suc_inj, one-mul, pow-suc, le_of_suc-le-suc, eq-or-lt_of_le}
 use native.Mathlib.Numerals.{add-one}
 use native.Mathlib.Omega.{arith}
 use lib.Bits.{bit_xor, xor_block, xor_comm, xor_shifted}
@@ -24,7 +24,7 @@ use Rattle.rs.proofs.Laws.Polynomial.{length-scale, ⊞-bytes, scale-bytes}
 use Rattle.basics.proofs.Laws.Below.{append-below, drop-below}
 use Rattle.basics.proofs.Laws.Parts.{entries, all-entries}
 use Rattle.rs.proofs.Laws.Division.{parity-length, parity-bytes, parity-step}
-use Rattle.rs.proofs.Laws.Codeword.{as_long, left-six}
+use Rattle.rs.proofs.Laws.Codeword.{as_long, left-six, left-long}
 
 -- ---- sums
 
@@ -132,16 +132,15 @@ divide-more l i s h k e =
 
 -- the parity of the first 248 and the last six add up to the remainder
 pub remainder-sum : (l : List ℕ) → length l ≡ 254 → Bytes l → pack (parity_of (take 248 l)) ⊕ pack (drop 248 l) ≡ pack (left_of l)
-unfolding left_of
-remainder-sum l e b = sym (pack-⊞ (parity_of (take 248 l)) (drop 248 l) (as_long l e) (parity-bytes (take 248 l)) (drop-below 256 248 l b))
+remainder-sum l e b =
+    sym (pack-⊞ (parity_of (take 248 l)) (drop 248 l) (as_long l e) (parity-bytes (take 248 l)) (drop-below 256 248 l b)) ∙ ap pack (sym (left-long l e))
 
-left-bytes : (l : List ℕ) → Bytes l → Bytes (left_of l)
-unfolding left_of
-left-bytes l b = ⊞-bytes _ _ (parity-bytes (take 248 l)) (drop-below 256 248 l b)
+left-bytes : (l : List ℕ) → length l ≡ 254 → Bytes l → Bytes (left_of l)
+left-bytes l e b = rw (left-long l e) (⊞-bytes _ _ (parity-bytes (take 248 l)) (drop-below 256 248 l b))
 
 -- and its six bytes are what the division leaves
 pub left-unpacked : (l : List ℕ) → length l ≡ 254 → Bytes l → unpack 6 (pack (left_of l)) ≡ left_of l
-left-unpacked l e b = unpack-pack 6 (left_of l) (left-six l e) (left-bytes l b)
+left-unpacked l e b = unpack-pack 6 (left_of l) (left-six l e) (left-bytes l e b)
 
 -- ---- a packed number is 0 exactly where its bytes are
 

@@ -1,16 +1,12 @@
--- The step from one index to another, what it says of the packet, the onsets of a byte as a mask leaves them, how the library tests equal lists, and
--- a worked value of onsets.
+-- The step from one index to another, what it says of the packet, the onsets of a byte as a mask leaves them, and a worked value of onsets.
 -- Assumes nothing.
-use mathlib.Core.Path.{◌≡◌, refl, ap}
-use mathlib.Core.Bool.{Bool, true, ◌&&◌}
-use mathlib.Core.List.{List, [], ◌∷◌}
+use mathlib.Core.Path.{◌≡◌, refl}
+use mathlib.Core.Bool.{Bool, true}
 use Prim.Native.Nat.{ℕ, suc, ◌+◌, ◌-◌, ◌%◌, ◌≤◌, ◌<◌}
 use native.Mathlib.Omega.{arith}
 use lib.Bits.{bit_and}
 use lib.Dec.{T, eqb, eqb-suc-zero}
 use Rattle.std.proofs.Math.Facts.{eqb_yes}
-use Rattle.std.specs.Cmp.Lexicographic.{pointwise}
-use Rattle.basics.specs.Each.{same}
 use Rattle.basics.proofs.Laws.Test.{below, below_at}
 use Rattle.sequence.specs.declared.Kind.{Kind}
 use Rattle.sequence.specs.declared.Kind.TheVariants.{First, Next, Repeat, Conflict}
@@ -63,15 +59,6 @@ onsets-masked old new h k =
     eqb_yes
     (below_at (λ (n : ℕ). eqb (bit_and n (255 - old)) (onset_byte old n)) 256
     (below_at (λ (o : ℕ). below (λ (n : ℕ). eqb (bit_and n (255 - o)) (onset_byte o n)) 256) 256 all-masked old h) new k)
-
--- ---- equal lists, as the library tests them
-
-pub pointwise-same : (a b : List ℕ) → pointwise eqb a b ≡ same a b
-unfolding same
-pointwise-same [] [] = refl
-pointwise-same [] (y ∷ b) = refl
-pointwise-same (x ∷ a) [] = refl
-pointwise-same (x ∷ a) (y ∷ b) = ap (◌&&◌ (eqb x y)) (pointwise-same a b)
 
 -- ---- a worked value
 

@@ -1,7 +1,7 @@
 -- `sequence::same` meets its contract: the library's test of two slices is that of the definition.
 -- Assumes nothing.
 use mathlib.Core.Path.{◌∙◌}
-use Rattle.sequence.proofs.Laws.Sequence.{pointwise-same}
+use Rattle.basics.proofs.Laws.Each.{pointwise-same}
 use Rattle.sequence.proofs.same.Goals as goal
 
 pub returns : goal.returns
