@@ -1,6 +1,6 @@
 // A plain repairer of 254 bytes, to hold against the quick one of `search`: it tries no place, then each place, each pair and each triple of
 // places in rising order, solves for the errors there, and stops at the first places whose errors have the six sums of what was delivered.
-// It has the same contract.
+// It has the same contract. The loops over the places stand one in the other, each with a label, as the rules want them here: the innermost leaves them all.
 #![tactic(auto)]
 
 mod errors;

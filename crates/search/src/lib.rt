@@ -80,7 +80,8 @@ fn mend_by<const N: usize>(
     true
 }
 
-// Repairs a block that is no codeword, by what the division left of it: by one error, by two or by three.
+// Repairs a block that is no codeword, by what the division left of it (a struct of both would hold a loan): by one error, by
+// two or by three.
 fn mend(block: &mut [u8], rest: [u8; 6]) -> bool
     requires { Damaged block.old rest }
     ensures { (result ≡ repairable block.old) × (block.new ≡ repaired block.old) }

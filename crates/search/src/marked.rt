@@ -71,7 +71,7 @@ fn located(tables: &Tables, s: [u8; 6], marks: Marks) -> Marks
     ensures { Locates s marks result }
 {
     let f = marks.count;
-    let left = values::kill_places(tables, s, marks.places, f).left;
+    let left = values::kill_places(tables, s, marks).left;
     let first = left[0];
     let determinant = solver::cross(tables, first, left[2], left[1], left[1]);
     if (f <= 2) & (determinant != 0) {
@@ -94,7 +94,7 @@ pub(crate) fn find_marked(tables: &Tables, s: [u8; 6], marks: Marks) -> [Error; 
     ensures { SolvedMarked s marks result }
 {
     let all = located(tables, s, marks);
-    let values = values::values(tables, s, all.places, all.count);
+    let values = values::values(tables, s, all);
     let mut errors = [Error {
         place: all.places[0],
         value: 0,

@@ -1,8 +1,8 @@
 // Up to six places with values: what is left of the sums once places are killed, and the values that the sums allow at given places.
-ghost use Rattle.std.specs.Prelude.{◌≡◌, ◌≤◌};
+ghost use Rattle.std.specs.Prelude.{◌≡◌};
 ghost use Rattle.search.specs.Values.{exponents, KillsAll, Unscaled, sum_of, FindsValues};
 
-use crate::errors::Place;
+use crate::errors::{Marks, Place};
 use crate::solver;
 use gf256::Tables;
 
@@ -13,16 +13,15 @@ pub(crate) struct Killed {
     pub(crate) left: [u8; 6],
 }
 
-// Kills the first n places, one after the other.
-pub(crate) fn kill_places(tables: &Tables, s: [u8; 6], places: [Place; 6], n: usize) -> Killed
-    requires { n ≤ 6 }
-    ensures { KillsAll n (exponents places) s result }
+// Kills the places, one after the other.
+pub(crate) fn kill_places(tables: &Tables, s: [u8; 6], marks: Marks) -> Killed
+    ensures { KillsAll marks.count (exponents marks.places) s result }
 {
     let mut firsts = [0; 6];
     let mut left = s;
-    for i in 0..n {
+    for i in 0..marks.count {
         firsts[i] = left[0];
-        solver::kill(tables, &mut left, places[i].element(tables));
+        solver::kill(tables, &mut left, marks.places[i].element(tables));
     }
     Killed { firsts, left }
 }
@@ -47,15 +46,15 @@ fn unscale(tables: &Tables, x: u8, places: [Place; 6], v: &mut [u8; 6])
     }
 }
 
-// The values at the first n places that the first n sums allow, and zeros behind them. The last place is alone once all others are killed; then, from the
+// The values at the places that as many of the sums allow, and zeros behind them. The last place is alone once all others are killed; then, from the
 // last to the first, the values behind a place are those before it was killed, and its own is what they leave of the first sum.
-pub(crate) fn values(tables: &Tables, s: [u8; 6], places: [Place; 6], n: usize) -> [u8; 6]
-    requires { n ≤ 6 }
-    ensures { FindsValues n s (exponents places) result }
+pub(crate) fn values(tables: &Tables, s: [u8; 6], marks: Marks) -> [u8; 6]
+    ensures { FindsValues marks.count s (exponents marks.places) result }
 {
-    let firsts = kill_places(tables, s, places, n).firsts;
+    let places = marks.places;
+    let firsts = kill_places(tables, s, marks).firsts;
     let mut v = [0; 6];
-    for i in (0..n).rev() {
+    for i in (0..marks.count).rev() {
         unscale(tables, places[i].element(tables), places, &mut v);
         v[i] = gf256::sum(firsts[i], sum_of(v));
     }

@@ -19,19 +19,10 @@ fn header(correction: bool, ci: u8) -> u16
 
 // The first seven words: the flag, the kind and the header.
 #[tactic(auto, unfolding(anc::specs::Words::flag, crate::specs::Layout::kind))]
-fn front(correction: bool, ci: u8) -> [u16; 7]
-    requires { ci ≤ 15 }
-    ensures { result ≡ flag ++ kind ++ header_word correction ci ∷ [] }
+fn front(header: u16) -> [u16; 7]
+    ensures { result ≡ flag ++ kind ++ header ∷ [] }
 {
-    [
-        0x000,
-        0x3FF,
-        0x3FF,
-        0x25F,
-        0x1FE,
-        0x2FF,
-        header(correction, ci),
-    ]
+    [0x000, 0x3FF, 0x3FF, 0x25F, 0x1FE, 0x2FF, header]
 }
 
 // Six words with the parity of the bytes, or 0x200 each where correction is off.
@@ -50,7 +41,7 @@ pub(crate) fn fill(correction: bool, ci: u8, bytes: &[u8; 248], out: &mut [u16; 
     requires { ci ≤ 15 }
     ensures { out.new ≡ packet_words correction ci bytes.now }
 {
-    out[0..7].copy_from_slice(&front(correction, ci));
+    out[0..7].copy_from_slice(&front(header(correction, ci)));
     anc::sound_words(bytes, &mut out[7..255]).unwrap();
     out[255..261].copy_from_slice(&guard(correction, bytes));
     let sum = anc::checksum(&out[3..261]);

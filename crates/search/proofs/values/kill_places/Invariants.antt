@@ -5,4 +5,4 @@ use Rattle.search.proofs.Laws.Values.{Killing}
 use Rattle.search.proofs.values.kill_places.Given as goal
 
 abbrev pub invariant-loop-i : goal.invariant-loop-i
-invariant-loop-i l = Killing l.n (exponents l.fn.places) l.initial.left l.firsts l.left l.i
+invariant-loop-i l = Killing l.fn.marks.count (exponents l.fn.marks.places) l.initial.left l.firsts l.left l.i

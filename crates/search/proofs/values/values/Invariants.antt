@@ -7,4 +7,4 @@ use Rattle.search.proofs.Laws.Values.{Noted, Valued}
 use Rattle.search.proofs.values.values.Given as goal
 
 abbrev pub invariant-loop-i : goal.invariant-loop-i
-invariant-loop-i l = (s : List ℕ) → Noted l.fn.n (exponents l.fn.places) s l.firsts → Valued l.fn.n s (exponents l.fn.places) l.v l.i
+invariant-loop-i l = (s : List ℕ) → Noted l.fn.marks.count (exponents l.fn.marks.places) s l.firsts → Valued l.fn.marks.count s (exponents l.fn.marks.places) l.v l.i
