@@ -17,7 +17,7 @@ fn byte(words: &[u16; 263], k: usize, from: usize) -> u8
     requires { (narrow words.now ≡ true) × (k < 262) × (from ≤ 12) }
     ensures { result ≡ number_of (take 8 (drop (10 * k + from) (bits_each 10 words.now))) }
 {
-    (((words[k] as u32 * 1024 + words[k + 1] as u32) >> (12 - from)) % 256) as u8
+    (((u32::from(words[k]) * 1024 + u32::from(words[k + 1])) >> (12 - from)) % 256) as u8
 }
 
 // Fills 328 bytes with the bits of 263 words, of the last as many as there is room for.
@@ -43,7 +43,7 @@ pub(crate) fn write_bytes(yc: bool, line: u16, offset: u16, words: &[u16; 262], 
     requires { (narrow words.now ≡ true) × (is_place line offset ≡ true) }
     ensures { out.new ≡ field_of yc line offset words.now }
 {
-    let mut head = line as u32 * 4096 + offset as u32;
+    let mut head = u32::from(line) * 4096 + u32::from(offset);
     if yc {
         head += 0x800000;
     }
@@ -67,7 +67,7 @@ fn word(field: &[u8; 328], k: usize, from: usize) -> u16
     requires { (k < 327) × (from ≤ 6) }
     ensures { result ≡ part field.now (8 * k + from) 10 }
 {
-    ((field[k] as u16 * 256 + field[k + 1] as u16) >> (6 - from)) % 1024
+    ((u16::from(field[k]) * 256 + u16::from(field[k + 1])) >> (6 - from)) % 1024
 }
 
 // Fills 262 words with the packet in a field. The flag takes the place of what stands before the words.

@@ -11,4 +11,4 @@ use Rattle.b40.proofs.field.byte.Goals as goal
 pub returns : goal.returns
 returns c =
     let w = c.args.words.now in
-    sym (pair 10 w (narrow_below w c.requires.0) c.args.k c.args.from 8 (12 - c.args.from) (search rules) (omega arith))
+    rw (c.from.ensures, c.from-2.ensures) (sym (pair 10 w (narrow_below w c.requires.0) c.args.k c.args.from 8 (12 - c.args.from) (search rules) (omega arith)))

@@ -14,4 +14,4 @@ unfolding part bits_of
 returns c =
     let f = c.args.field.now in
     let bytes = at-below 256 f (λ i. search rules) in
-    sym (pair 8 f bytes c.args.k c.args.from 10 (6 - c.args.from) (search rules) (omega arith))
+    rw (c.from.ensures, c.from-2.ensures) (sym (pair 8 f bytes c.args.k c.args.from 10 (6 - c.args.from) (search rules) (omega arith)))
