@@ -1,5 +1,6 @@
 // What stands in a field, as code gets at it: ten bits lie in two neighbouring bytes and eight bits in two neighbouring words of ten, so that four
-// words go into five bytes.
+// words go into five bytes. That words are narrow is asked by each of the three that go through them: a type that says it would have to copy what is
+// lent. Line and offset go one by one, as the definitions and the public call have them.
 ghost use Rattle.std.specs.Prelude.{◌≡◌, true, ◌+◌, ◌*◌, ◌≤◌, ◌<◌, take, drop};
 ghost use Rattle.anc.specs.Words.{narrow};
 ghost use Rattle.b40.specs.Field.{bits_each, number_of, numbers, field_of, part, words_of, is_place};

@@ -146,7 +146,8 @@ impl Follower {
         Ok(())
     }
 
-    // What follows on a packet that is accepted: what it brings is told against the record at the position.
+    // What follows on a packet that is accepted: what it brings is told against the record at the position. (The packet and its record go side by side,
+    // here and below: reading hands out the one and fills the buffer of the other.)
     #[tactic(auto, unfolding(crate::specs::Follower::accepts, crate::specs::Follower::arrived_as, crate::specs::Follower::arrival_of, crate::specs::Follower::step_to))]
     fn accept(self, packet: Packet, arrived: [u8; 248]) -> Followed
         ensures { result ≡ accepts self packet arrived }

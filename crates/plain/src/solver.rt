@@ -1,7 +1,8 @@
 // The six sums of a block, and errors at given places. Sum m, from 0 to 5, is the block's value at 2^m. Those of a codeword are 0, so the sums
 // of what was delivered are those of its errors: an error y at the place with the element x adds y x^m. To kill a place is to add x times
 // each sum to the next one: its error is then gone, and each other one is multiplied by what the two elements differ by. So the errors at
-// given places are solved for by killing the others. They are believed where they have all six sums. The tables of the field are lent by the caller.
+// given places are solved for by killing the others. They are believed where they have all six sums. The tables of the field are lent by the caller,
+// once for the whole repair; the sums, which are those of one block, go beside them.
 // `search` works out sums too, and shares none of this: it is held against what stands here.
 ghost use Rattle.std.specs.Prelude.{◌≡◌, [], ◌∷◌, ◌<◌};
 ghost use Rattle.gf256.specs.Field.{◌⊕◌, ◌⊗◌};

@@ -1,4 +1,5 @@
-// Reading a packet part by part: the words up to the header, the protected words and their bytes, the checksum, and what is told of them.
+// Reading a packet part by part: the words up to the header, the protected words and their bytes, the checksum, and what is told of them. The words
+// are lent by one caller and the bytes filled by another, so that they go side by side and not as one struct.
 ghost use Rattle.std.specs.Prelude.{◌≡◌, true, length};
 ghost use Rattle.anc.specs.Word.{checksum_of};
 ghost use Rattle.anc.specs.Words.{sound_words};

@@ -1,5 +1,6 @@
 // The search for at most three errors by the six sums of what was delivered. Each solver gives what the errors must be if there are so
-// many; their own sums then tell whether they are. The tables of the field are lent by the caller.
+// many; their own sums then tell whether they are. The tables of the field are lent by the caller, once for the whole repair, and the sums go beside
+// them, since they are others once a place is killed.
 ghost use Rattle.std.specs.Prelude.{◌≡◌, true, ◌<◌, ◌≤◌};
 ghost use Rattle.gf256.specs.Field.{◌⊕◌, ◌⊗◌};
 ghost use Rattle.rs.specs.Polynomial.{value_at};

@@ -1,4 +1,5 @@
-// Writing a control packet, with an index, and with or without correction: the 262 words of 248 bytes' record, or of the bytes as they stand.
+// Writing a control packet, with an index, and with or without correction: the 262 words of 248 bytes' record, or of the bytes as they stand. The two go
+// one by one, as the interface and the definitions have them.
 #![tactic(auto)]
 
 mod parts;
