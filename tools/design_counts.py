@@ -43,13 +43,27 @@ def twins(files):
     return [" = ".join(group) for group in groups.values() if len(group) > 1]
 
 
+def parts(clause):
+    """The facts of a clause, which × joins."""
+    out, depth, part = [], 0, ""
+    for c in clause:
+        depth += {"(": 1, ")": -1}.get(c, 0)
+        if c == "×" and depth == 0:
+            out.append(part.strip())
+            part = ""
+        else:
+            part += c
+    return [p[1:-1] if len(out) and p.startswith("(") else p for p in out + [part.strip()]]
+
+
 def repeated(files):
-    """Clauses of a `requires` that stand in three functions or more."""
-    clauses = collections.Counter()
-    for text in files.values():
+    """The facts that three functions or more of a crate require."""
+    facts = collections.Counter()
+    for name, text in files.items():
         for clause in re.findall(r"^ *requires(?: \w+)? \{ (.*) \}$", text, re.M):
-            clauses[clause] += 1
-    return [f"{n} times: {clause}" for clause, n in clauses.most_common() if n >= 3]
+            for fact in parts(clause):
+                facts[name.split("/")[1], fact] += 1
+    return [f"{n} times in {crate}: {fact}" for (crate, fact), n in facts.most_common() if n >= 3]
 
 
 POINTS = {
@@ -59,7 +73,7 @@ POINTS = {
     "2 twins": twins,
     "3 loops that count": lambda f: matches(f, r"^\s*while "),
     "4 by hand": lambda f: matches(f, r"fn (same|copy|is_zero|number|bits|bits_in|kind_number|one_of|between|wide|low|place|nine|four|station_of|pair|quad|pack|unpack|sum6|less_one|count|flag|first|fill)\("),
-    "5 clauses that repeat": repeated,
+    "5 facts that repeat": repeated,
     "5 the two tables side by side": lambda f: matches(f, r"wheel: &\[u8; 1021\]"),
     "6 an array with a count, arrays side by side": lambda f: matches(f, r"^\s*pub(\(crate\))? (length|count): |^const \w+: \["),
     "7 switches by number": lambda f: matches(f, r"if (number|chance \S+ \S+|chance \S+ \S+ \S+ \S+) == "),
