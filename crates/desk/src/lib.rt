@@ -86,10 +86,13 @@ impl Desk {
             return self.refused(plain(Reason::NothingToUndo));
         };
         let mut back = self.bytes;
+        // one copy of them, which goes into the desk that is handed back: to look into those of `self` would copy it once more, also where it is refused
+        let steps = self.steps;
         // a step of no item, made by hand, puts nothing back and is taken away
-        let _ = steps::put_back(self.steps[usize::from(left)], &mut back);
+        let _ = steps::put_back(steps[usize::from(left)], &mut back);
         Desk {
             bytes: back,
+            steps,
             count: left,
             ..self
         }

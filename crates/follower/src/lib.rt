@@ -152,8 +152,8 @@ impl Follower {
     fn accept(self, packet: Packet, arrived: [u8; 248]) -> Followed
         ensures { result ≡ accepts self packet arrived }
     {
-        let again = self.before_again(packet, arrived);
-        let kind = self.kind(packet, again, arrived);
+        let again = self.before_again(packet, &arrived);
+        let kind = self.kind(packet, again, &arrived);
         let step = sequence::step_of(self.held.ci, packet.ci);
         let old = self.held.at;
         let arrival = Arrival {
@@ -170,26 +170,27 @@ impl Follower {
     }
 
     // Is the packet the one before again?
-    #[tactic(auto, using(crate::proofs::Laws::Again::equal_lists), unfolding(crate::specs::Follower::step_to, crate::specs::Follower::before_again))]
-    fn before_again(self, packet: Packet, arrived: [u8; 248]) -> bool
-        ensures { result ≡ before_again self packet arrived }
+    #[tactic(auto, unfolding(crate::specs::Follower::step_to, crate::specs::Follower::before_again))]
+    fn before_again(&self, packet: Packet, arrived: &[u8; 248]) -> bool
+        ensures { result ≡ before_again self.now packet arrived.now }
     {
         self.started
             && self.held.successive
             && sequence::step_of(self.held.ci, packet.ci) == 15
-            && self.held.before == arrived
+            && sequence::same(&self.held.before, arrived)
     }
 
     // The packet's kind; `again` says whether it is the one before.
-    #[tactic(auto, using(crate::proofs::Laws::Again::equal_lists), unfolding(crate::specs::Follower::step_to))]
-    fn kind(self, packet: Packet, again: bool, arrived: [u8; 248]) -> Kind
-        ensures { result ≡ cond again Repeat (kind_of self.started (step_to self packet) (same self.held.at arrived)) }
+    #[tactic(auto, unfolding(crate::specs::Follower::step_to))]
+    fn kind(&self, packet: Packet, again: bool, arrived: &[u8; 248]) -> Kind
+        ensures { result ≡ cond again Repeat (kind_of self.now.started (step_to self.now packet) (same self.now.held.at arrived.now)) }
     {
         if again {
             return Kind::Repeat;
         }
         let step = sequence::step_of(self.held.ci, packet.ci);
-        sequence::kind_of(self.started, step, self.held.at == arrived)
+        let equal = sequence::same(&self.held.at, arrived);
+        sequence::kind_of(self.started, step, equal)
     }
 
     // The arrival is counted, and its record held and shown.

@@ -83,7 +83,9 @@ pub struct Tables {
 
 impl Tables {
     // Builds both tables.
-    pub fn new() -> Tables {
+    pub fn new() -> Tables
+        ensures { (Wheel result.wheel) × (LogTable result.logs) }
+    {
         Tables {
             wheel: wheel(),
             logs: logs(),

@@ -1,13 +1,24 @@
 // The outside vectors, from standard input.
+ghost use Rattle.std.specs.Prelude.{IfOk, ◌≤◌, length};
+
 use answers::{AyAnswer, AyVerdict};
 use std::io;
 use std::io::Read;
 
-// Fills `room` from the input, as far as that goes: is it full then?
-fn fill<R: Read>(from: &mut R, room: &mut [u8]) -> io::Result<bool> {
-    let wanted = room.len() as u64;
-    let got = io::copy(&mut from.by_ref().take(wanted), &mut &mut room[..])?;
-    Ok(got == wanted)
+// Fills `room` from the input, as far as that goes, and says how many bytes came. By `read` and not by the library's copy, which would read again where a
+// read was interrupted: any read that fails ends the program. What came so far counts the turns, so the loop is a `while`.
+fn fill<R: Read>(from: &mut R, room: &mut [u8]) -> io::Result<usize>
+    ensures { IfOk result (λ n. n ≤ length room.new) }
+{
+    let mut got: usize = 0;
+    while got < room.len() {
+        let more = from.read(&mut room[got..])?;
+        if more == 0 {
+            return Ok(got);
+        }
+        got += more;
+    }
+    Ok(got)
 }
 
 // Is the parity of the first 248 bytes the last six?
@@ -20,7 +31,7 @@ pub(crate) fn parities<R: Read>(from: &mut R) -> io::Result<u64> {
     let mut block = [0; 254];
     let mut equal = 0u64;
     for _ in 0..200 {
-        if fill(from, &mut block)? && parity_equal(block) {
+        if fill(from, &mut block)? == 254 && parity_equal(block) {
             equal = equal.wrapping_add(1);
         }
     }
@@ -65,7 +76,7 @@ pub(crate) fn deliveries<R: Read>(from: &mut R, count: usize, all: bool) -> io::
     let mut vector = [0; 509];
     let mut compared = Compared { equal: 0, alike: 0 };
     for _ in 0..count {
-        let whole = fill(from, &mut vector)?;
+        let whole = fill(from, &mut vector)? == 509;
         if whole && repair_equal(vector) && check_equal(vector) {
             compared.equal = compared.equal.wrapping_add(1);
         }

@@ -76,10 +76,11 @@ abbrev pub counts_of : ℕ → ℕ → ℕ → ℕ → List (Option ℕ)
 counts_of a b c d = count_of a ∷ count_of b ∷ count_of c ∷ count_of d ∷ []
 
 unfoldable pub counters_of : List ℕ → List (Option ℕ)
-counters_of bytes = counts_of (get_or bytes 33 0) (get_or bytes 34 0) (get_or bytes 35 0) (get_or bytes 36 0)
+counters_of bytes = counter_of (get_or bytes 33 0) ∷ counter_of (get_or bytes 34 0) ∷ counter_of (get_or bytes 35 0) ∷ counter_of (get_or bytes 36 0) ∷ []
 
 unfoldable pub countdowns_of : List ℕ → List (Option ℕ)
-countdowns_of bytes = counts_of (get_or bytes 37 0) (get_or bytes 38 0) (get_or bytes 39 0) (get_or bytes 40 0)
+countdowns_of bytes =
+    countdown_of (get_or bytes 37 0) ∷ countdown_of (get_or bytes 38 0) ∷ countdown_of (get_or bytes 39 0) ∷ countdown_of (get_or bytes 40 0) ∷ []
 
 -- bytes as a number, the first lowest
 abbrev pub pair_of : ℕ → ℕ → ℕ
@@ -158,10 +159,10 @@ abbrev pub counter_byte : Option ℕ → ℕ
 counter_byte o = count_byte o
 
 unfoldable pub counters_bytes : List (Option ℕ) → List ℕ
-counters_bytes q = map count_byte q
+counters_bytes q = map counter_byte q
 
 unfoldable pub countdowns_bytes : List (Option ℕ) → List ℕ
-countdowns_bytes q = map count_byte q
+countdowns_bytes q = map countdown_byte q
 
 unfoldable pub pair_bytes : ℕ → List ℕ
 pair_bytes n = n % 256 ∷ n / 256 ∷ []

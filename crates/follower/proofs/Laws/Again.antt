@@ -8,16 +8,13 @@ use borrow.Author.Tests.{eq-eqb, eqb-true}
 use lib.Dec.{eqb}
 use Rattle.basics.specs.Each.{same}
 use Rattle.basics.proofs.Laws.Test.{both_true, fails}
-use Rattle.basics.proofs.Laws.Each.{same-equal, same_self, pointwise-same}
+use Rattle.basics.proofs.Laws.Each.{same-equal, same_self}
 use Rattle.sequence.specs.declared.Kind.TheVariants.{Next, Repeat}
 use Rattle.sequence.proofs.Laws.Sequence.{further}
 use Rattle.sequence.specs.Onsets.{onset_bit, onset_byte, onsets_of}
 use Rattle.reading.specs.declared.Packet.{Packet}
 use Rattle.follower.specs.declared.Follower.{Follower}
 use Rattle.follower.specs.Follower.{step_to, before_again, arrived_as}
-
--- what `==` says of two lists
-pub ruleset equal_lists = (pointwise-same)
 
 module _ (f : Follower) (p : Packet) (arrived : List ℕ) where
   -- what is so where it is

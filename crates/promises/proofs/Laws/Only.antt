@@ -69,6 +69,8 @@ use Rattle.gf256.proofs.product.Kinds as product-types
 use Rattle.gf256.proofs.product.Reads as product-contract
 use Rattle.gf256.proofs.quotient.Kinds as quotient-types
 use Rattle.gf256.proofs.quotient.Reads as quotient-contract
+use Rattle.gf256.proofs.Tables.new.Kinds as tables-new-types
+use Rattle.gf256.proofs.Tables.new.Reads as tables-new-contract
 use Rattle.gf256.proofs.Tables.product.Kinds as tables-product-types
 use Rattle.gf256.proofs.Tables.product.Reads as tables-product-contract
 use Rattle.gf256.proofs.Tables.quotient.Kinds as tables-quotient-types
@@ -302,6 +304,13 @@ product κs i a b s t p q = p ∙ sym q
 
 pub quotient : OneAnswer 0 quotient-types.ps quotient-types.r quotient-contract.Learnt
 quotient κs i a b s t p q = p ∙ sym q
+
+-- of both tables
+pub tables-new : OneList 0 tables-new-types.ps tables-new-types.r (λ κs a. a.wheel) tables-new-contract.Learnt
+tables-new κs i a b s t p q = wheel-unique a.wheel b.wheel p.0 q.0
+
+pub tables-new-logs : OneList 0 tables-new-types.ps tables-new-types.r (λ κs a. a.logs) tables-new-contract.Learnt
+tables-new-logs κs i a b s t p q = logs-unique a.logs b.logs p.1 q.1
 
 pub tables-product : OneAnswer 1 tables-product-types.ps tables-product-types.r tables-product-contract.Learnt
 tables-product κs i a b s t p q = p ∙ sym q

@@ -216,15 +216,14 @@ stopped {why} {w} rest c e p g h =
 pub decided : {a : Checked} {chain : Option Refusal → Option Refusal} (o : Option Refusal) → Chained (Ok tt) chain → a ≡ checked_of o → a ≡ checked_of (chain o)
 decided o c e = e ∙ ap checked_of (c.behind o)
 
--- and so with the checks of a further call, that passed or that did not
+-- and so with the checks of a further call, that passed or that did not: they are those of its answer
 pub went-past : {a : Checked} {chain : Option Refusal → Option Refusal} (o : Option Refusal) → Chained (Ok tt) chain → a ≡ checked_of o → a ≡ Ok tt
     → Chained (Ok tt) (λ rest. chain (next o rest))
-went-past {chain} o c e h = let none-of = done-is o (sym h ∙ e) in record { behind = λ rest. c.behind rest ∙ ap chain (sym (ap (λ (p : Option Refusal). next p rest) none-of)) }
+went-past {chain} o c e h = let call = chained-from o (sym h ∙ e) in record { behind = λ rest. c.behind rest ∙ ap chain (call.behind rest) }
 
 pub stopped-at : {a : Checked} {chain : Option Refusal → Option Refusal} {w : Refusal} (o rest : Option Refusal) → Chained (Ok tt) chain → a ≡ checked_of o → a ≡ Err w
     → Err w ≡ checked_of (chain (next o rest))
-stopped-at {chain} {w} o rest c e h =
-    let that = refused-is o w (sym h ∙ e) in ap checked_of (c.behind (some w) ∙ ap chain (sym (ap (λ (p : Option Refusal). next p rest) that)))
+stopped-at {chain} {w} o rest c e h = let call = chained-from o (sym h ∙ e) in ap checked_of (c.behind (some w) ∙ ap chain (call.behind rest))
 
 -- the checks so far passed, and one more decides
 pub last-check : {a : Checked} {chain : Option Refusal → Option Refusal} {ok test : Bool} {given why : Refusal} → Chained (Ok tt) chain → a ≡ checked_of (require ok given passed)

@@ -15,8 +15,8 @@ use Rattle.std.proofs.lemmas.Bool.{cases_Bool}
 use Rattle.rules.specs.Rules.{decimal, time_byte, same_sent, time_rule, only_bit, low_half, bit_for, picture_rule, picture_clean}
 use Rattle.record.specs.Record.{laid_out, record_of, broken}
 use Rattle.items.specs.Items.{Row, items, part}
-use Rattle.std.specs.Prelude.{Some, None}
-use Rattle.view.specs.View.{count_of, counts_of, count_byte, time_word_of, milliseconds_of, time_of, bit_set, picture_of, sound_of, countdown_of, counter_of, counters_of, countdowns_of, pair_of, quad_of, view_of, packed, time_word_byte, milliseconds_bytes, time_bytes, bit_back, picture_bytes, sound_mode_byte, countdown_byte, counter_byte, counters_bytes, countdowns_bytes, pair_bytes, quad_bytes, bytes_of}
+use Rattle.std.specs.Prelude.{Option, Some, None}
+use Rattle.view.specs.View.{count_of, count_byte, time_word_of, milliseconds_of, time_of, bit_set, picture_of, sound_of, countdown_of, counter_of, counters_of, countdowns_of, pair_of, quad_of, view_of, packed, time_word_byte, milliseconds_bytes, time_bytes, bit_back, picture_bytes, sound_mode_byte, countdown_byte, counter_byte, counters_bytes, countdowns_bytes, pair_bytes, quad_bytes, bytes_of}
 use Rattle.record.proofs.Laws.Record.{record-halves}
 use Rattle.basics.proofs.Laws.Parts.{entries, part-entries, same-cons}
 
@@ -194,16 +194,17 @@ pub counter-back : (b : ℕ) → counter_byte (counter_of b) ≡ b
 counter-back b = count-back b
 
 -- and four of them in a row
-four-back : (a b c d : ℕ) → map count_byte (counts_of a b c d) ≡ a ∷ b ∷ c ∷ d ∷ []
-four-back a b c d = same-cons (count-back a) (same-cons (count-back b) (same-cons (count-back c) (same-cons (count-back d) refl)))
+module _ (of : ℕ → Option ℕ) (byte : Option ℕ → ℕ) (back : (b : ℕ) → byte (of b) ≡ b) where
+  four-back : (a b c d : ℕ) → map byte (of a ∷ of b ∷ of c ∷ of d ∷ []) ≡ a ∷ b ∷ c ∷ d ∷ []
+  four-back a b c d = same-cons (back a) (same-cons (back b) (same-cons (back c) (same-cons (back d) refl)))
 
 pub counters-back : (bytes : List ℕ) → counters_bytes (counters_of bytes) ≡ entries 4 33 bytes
 unfolding counters_bytes counters_of
-counters-back bytes = four-back _ _ _ _
+counters-back bytes = four-back counter_of counter_byte counter-back _ _ _ _
 
 pub countdowns-back : (bytes : List ℕ) → countdowns_bytes (countdowns_of bytes) ≡ entries 4 37 bytes
 unfolding countdowns_bytes countdowns_of
-countdowns-back bytes = four-back _ _ _ _
+countdowns-back bytes = four-back countdown_of countdown_byte countdown-back _ _ _ _
 
 -- the first of several bytes
 low_byte : (a m : ℕ) → a < 256 → (a + 256 * m) % 256 ≡ a
