@@ -18,7 +18,7 @@ module _ (n : ℕ) (ps : List (ParamKind n)) (r : ResultKind n) where
       (κs : Lfts n) (input : Dens κs ps) (a b : (res_t r κs).Denot) (s t : AtExit (ended_of n ps r) κs) → Allowed κs input a s → Allowed κs input b t
       → (bytes κs a ≡ bytes κs b) × (place κs a ≡ place κs b)
 
-  -- where a list is handed out, and not where it lies: any two are the same list
+  -- of a list that is handed out, but for where it lies, or that stands in the answer: in any two it is the same list
   abbrev pub OneList : ((κs : Lfts n) → (res_t r κs).Denot → List ℕ) → Out n ps r → Type 0
   OneList list Allowed =
       (κs : Lfts n) (input : Dens κs ps) (a b : (res_t r κs).Denot) (s t : AtExit (ended_of n ps r) κs) → Allowed κs input a s → Allowed κs input b t → list κs a ≡ list κs b

@@ -71,16 +71,15 @@ time_of bytes =
       milliseconds = milliseconds_of (get_or bytes 15 0) (get_or bytes 16 0);
     }
 
--- four of them in a row
-abbrev pub counts_of : ℕ → ℕ → ℕ → ℕ → List (Option ℕ)
-counts_of a b c d = count_of a ∷ count_of b ∷ count_of c ∷ count_of d ∷ []
+-- four in a row, from byte i on, each as `of` has it
+abbrev pub counts_of : (ℕ → Option ℕ) → List ℕ → ℕ → List (Option ℕ)
+counts_of of bytes i = of (get_or bytes i 0) ∷ of (get_or bytes (i + 1) 0) ∷ of (get_or bytes (i + 2) 0) ∷ of (get_or bytes (i + 3) 0) ∷ []
 
 unfoldable pub counters_of : List ℕ → List (Option ℕ)
-counters_of bytes = counter_of (get_or bytes 33 0) ∷ counter_of (get_or bytes 34 0) ∷ counter_of (get_or bytes 35 0) ∷ counter_of (get_or bytes 36 0) ∷ []
+counters_of bytes = counts_of counter_of bytes 33
 
 unfoldable pub countdowns_of : List ℕ → List (Option ℕ)
-countdowns_of bytes =
-    countdown_of (get_or bytes 37 0) ∷ countdown_of (get_or bytes 38 0) ∷ countdown_of (get_or bytes 39 0) ∷ countdown_of (get_or bytes 40 0) ∷ []
+countdowns_of bytes = counts_of countdown_of bytes 37
 
 -- bytes as a number, the first lowest
 abbrev pub pair_of : ℕ → ℕ → ℕ

@@ -75,7 +75,7 @@ fn count_of(b: u8) -> Option<u8>
 
 // Four counts in a row.
 fn counts_of(q: [u8; 4]) -> [Option<u8>; 4]
-    ensures { result ≡ counts_of (get_or q 0 0) (get_or q 1 0) (get_or q 2 0) (get_or q 3 0) }
+    ensures { result ≡ counts_of count_of q 0 }
 {
     [
         count_of(q[0]),

@@ -305,7 +305,7 @@ product κs i a b s t p q = p ∙ sym q
 pub quotient : OneAnswer 0 quotient-types.ps quotient-types.r quotient-contract.Learnt
 quotient κs i a b s t p q = p ∙ sym q
 
--- of both tables
+-- of the two tables that stand in the answer
 pub tables-new : OneList 0 tables-new-types.ps tables-new-types.r (λ κs a. a.wheel) tables-new-contract.Learnt
 tables-new κs i a b s t p q = wheel-unique a.wheel b.wheel p.0 q.0
 
